@@ -1,4 +1,4 @@
--- `ops::greater` meets its contract. Assumes nothing.
+-- `ops::greater` meets its contract.
 use Rattle.ops.specs.Order.{greaterOf}
 use Rattle.ops.proofs.greater.Statement.{statement}
 use Rattle.ops.proofs.greater.Tie as tie

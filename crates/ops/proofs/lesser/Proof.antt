@@ -1,4 +1,4 @@
--- `ops::lesser` meets its contract. Assumes nothing.
+-- `ops::lesser` meets its contract.
 use Rattle.ops.specs.Order.{lesserOf}
 use Rattle.ops.proofs.lesser.Statement.{statement}
 use Rattle.ops.proofs.lesser.Tie as tie

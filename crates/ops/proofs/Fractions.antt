@@ -1,0 +1,50 @@
+-- Of a fraction n / d: its whole part, and the whole number at or above it.
+use mathlib.Core.Path.{_≡_, sym, subst}
+use mathlib.Core.Bool.{true, false}
+use Prim.Native.Nat.{ℕ, suc, _+_, _-_, _*_, _/_, _≤_, _<_, min}
+use native.Mathlib.Nat.{zero-mul, suc-mul, le-div-iff-mul-le, div-lt-iff-lt-mul, div-mul-le-self, lt-div-mul-add, mul-le-mul-right, le-antisymm, le-trans}
+use native.Mathlib.Omega.{arith}
+use lib.Dec.{ltb}
+use borrow.Author.Tests.{ltb-true, ltb-false, le-ltb}
+use Rattle.ops.specs.Round.{away}
+
+pub away-ge : (n d : ℕ) → 0 < d → n / d ≤ away n d
+away-ge n d p = le-div-iff-mul-le p .1 (omega (arith, div-mul-le-self n d))
+
+-- the number at or above the fraction is at most k exactly where the fraction is
+pub away-le : (n d k : ℕ) → 0 < d → n ≤ k * d → away n d ≤ k
+away-le n d k p h = below-next (div-lt-iff-lt-mul p .1 (omega (arith, suc-mul k d)))
+  where
+    below-next : {a : ℕ} → a < suc k → a ≤ k
+    below-next h = omega arith
+
+pub away-le-back : (n d k : ℕ) → 0 < d → away n d ≤ k → n ≤ k * d
+away-le-back n d k p h = omega (arith, mul-le-mul-right d h, lt-div-mul-add {a = n + (d - 1)} p)
+
+pub nothing-left : (n d : ℕ) → 0 < d → n ≤ 0 → n / d ≡ away n d
+nothing-left n d p h = omega (arith, away-ge n d p, away-le n d 0 p (omega (arith, zero-mul d)))
+
+-- where something is left over, it is one more than the whole part
+away-up : (n d : ℕ) → 0 < d → n / d * d < n → away n d ≡ suc (n / d)
+away-up n d p h =
+    le-antisymm (away-le n d (suc (n / d)) p (omega (arith, lt-div-mul-add {a = n} p, suc-mul (n / d) d)))
+    (le-div-iff-mul-le p .1 (omega (arith, suc-mul (n / d) d)))
+
+-- ---- both held at c, k being the whole part so held
+module _ (n d c k : ℕ) (p : 0 < d) (e : k ≡ min (n / d) c) where
+  pub one-more : ltb (k * d) n ≡ true → k < c → min (away n d) c ≡ suc k
+  one-more h l =
+      let q : n / d ≡ k = omega arith in
+      let u : away n d ≡ suc (n / d) = away-up n d p (subst (λ (z : ℕ). z * d < n) (sym q) (ltb-true (k * d) n h)) in
+      omega arith
+
+  pub no-more : ltb (k * d) n ≡ false → min (away n d) c ≡ k
+  no-more h = omega (arith, away-le n d k p (ltb-false (k * d) n h), away-ge n d p)
+
+  pub at-end : c ≤ k → min (away n d) c ≡ k
+  at-end h = omega (arith, away-ge n d p)
+
+  pub never-below : ltb n (k * d) ≡ false
+  never-below =
+      let h : k ≤ n / d = omega arith in
+      le-ltb n (k * d) (le-trans (mul-le-mul-right d h) (div-mul-le-self n d))
