@@ -1,5 +1,5 @@
 -- The lesser and the greater of two floats: each is one of the two, and where neither is NaN it is on the right side of both.
-use mathlib.Core.Path.{_≡_, refl, ap, _∙_}
+use mathlib.Core.Path.{_≡_, refl, sym, ap, _∙_}
 use mathlib.Core.Bool.{Bool, true, false, not, cond, _||_}
 use mathlib.Core.Logic.{_⊎_, inl, inr}
 use Prim.Native.Nat.{ℕ, _*_}
@@ -33,6 +33,12 @@ pub le-of-not-lt : (x y : Float) → isNan x ≡ false → isNan y ≡ false →
 le-of-not-lt x y p q h = le-total x y p q ∙ ap not h
 
 -- ---- the choice
+
+pub second : (t : Bool) (a b : Float) → t ≡ true → b ≡ cond t b a
+second t a b h = ap (λ (t : Bool). cond t b a) (sym h)
+
+pub first : (t : Bool) (a b : Float) → t ≡ false → a ≡ cond t b a
+first t a b h = ap (λ (t : Bool). cond t b a) (sym h)
 
 one-of : (t : Bool) (a b : Float) → (cond t b a ≡ a) ⊎ (cond t b a ≡ b)
 one-of true a b = inr refl

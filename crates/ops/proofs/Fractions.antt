@@ -1,5 +1,5 @@
 -- Of a fraction n / d: its whole part, and the whole number at or above it.
-use mathlib.Core.Path.{_≡_, sym, subst}
+use mathlib.Core.Path.{_≡_, subst}
 use mathlib.Core.Bool.{true, false}
 use Prim.Native.Nat.{ℕ, suc, _+_, _-_, _*_, _/_, _≤_, _<_, min}
 use native.Mathlib.Nat.{zero-mul, suc-mul, le-div-iff-mul-le, div-lt-iff-lt-mul, div-mul-le-self, lt-div-mul-add, mul-le-mul-right, le-antisymm, le-trans}
@@ -30,21 +30,26 @@ away-up n d p h =
     le-antisymm (away-le n d (suc (n / d)) p (omega (arith, lt-div-mul-add {a = n} p, suc-mul (n / d) d)))
     (le-div-iff-mul-le p .1 (omega (arith, suc-mul (n / d) d)))
 
--- ---- both held at c, k being the whole part so held
-module _ (n d c k : ℕ) (p : 0 < d) (e : k ≡ min (n / d) c) where
-  pub one-more : ltb (k * d) n ≡ true → k < c → min (away n d) c ≡ suc k
+-- ---- both held at c
+
+-- the whole part
+abbrev pub part : ℕ → ℕ → ℕ → ℕ
+part n d c = min (n / d) c
+
+module _ (n d c : ℕ) (p : 0 < d) where
+  pub one-more : ltb (part n d c * d) n ≡ true → part n d c < c → min (away n d) c ≡ suc (part n d c)
   one-more h l =
-      let q : n / d ≡ k = omega arith in
-      let u : away n d ≡ suc (n / d) = away-up n d p (subst (λ (z : ℕ). z * d < n) (sym q) (ltb-true (k * d) n h)) in
-      omega arith
+      let q : part n d c ≡ n / d = omega arith in
+      omega (arith, away-up n d p (subst (λ (k : ℕ). k * d < n) q (ltb-true (part n d c * d) n h)))
 
-  pub no-more : ltb (k * d) n ≡ false → min (away n d) c ≡ k
-  no-more h = omega (arith, away-le n d k p (ltb-false (k * d) n h), away-ge n d p)
+  pub no-more : ltb (part n d c * d) n ≡ false → min (away n d) c ≡ part n d c
+  no-more h = omega (arith, away-le n d (part n d c) p (ltb-false (part n d c * d) n h), away-ge n d p)
 
-  pub at-end : c ≤ k → min (away n d) c ≡ k
+  pub at-end : c ≤ part n d c → min (away n d) c ≡ part n d c
   at-end h = omega (arith, away-ge n d p)
 
-  pub never-below : ltb n (k * d) ≡ false
-  never-below =
-      let h : k ≤ n / d = omega arith in
-      le-ltb n (k * d) (le-trans (mul-le-mul-right d h) (div-mul-le-self n d))
+  pub never-below : ltb n (part n d c * d) ≡ false
+  never-below = le-ltb n (part n d c * d) (le-trans (mul-le-mul-right d part-le) (div-mul-le-self n d))
+    where
+      part-le : part n d c ≤ n / d
+      part-le = omega arith

@@ -16,15 +16,18 @@ use lib.Ieee.Fits.{down-pos}
 use borrow.Author.Tests.{ltb-true, ltb-false}
 use Rattle.ops.specs.Round.{lowest, highest, held, endOf, away, floorTo, ceilTo}
 use Rattle.ops.proofs.Integers.{minus-one, minus-above-yes, minus-above-no}
-use Rattle.ops.proofs.Fractions.{one-more, no-more, at-end, never-below}
+use Rattle.ops.proofs.Fractions.{part, one-more, no-more, at-end, never-below}
 use Rattle.ops.proofs.Order.{lt-whole, whole-lt, isNeg, cast-value}
 
+abbrev minus : ℕ → ℤ
+minus k = negℤ (pos k)
+
 -- -a / d against -k
-neg-r : (k a d : ℕ) → below true a (isNeg (negℤ (pos k))) (natAbs (negℤ (pos k)) * d) ≡ ltb (k * d) a
+neg-r : (k a d : ℕ) → below true a (isNeg (minus k)) (natAbs (minus k) * d) ≡ ltb (k * d) a
 neg-r zero a d = rw (zero-mul d, add-zero a)
 neg-r (suc k) a d = refl
 
-neg-l : (k a d : ℕ) → ltb a (k * d) ≡ false → below (isNeg (negℤ (pos k))) (natAbs (negℤ (pos k)) * d) true a ≡ false
+neg-l : (k a d : ℕ) → ltb a (k * d) ≡ false → below (isNeg (minus k)) (natAbs (minus k) * d) true a ≡ false
 neg-l zero a d h = refl
 neg-l (suc k) a d h = h
 
@@ -48,35 +51,31 @@ high-lt nan = refl
 high-lt (inf s) = refl
 high-lt (fin s m e) = refl
 
--- the whole part of m * 2 ^ e, held at c
-abbrev part : ℕ → ℤ → ℕ → ℕ
-part m e c = min (m * up e / down e) c
-
 module _ (f : Format) (h : ℕ) (w : 2 ^ h ≤ 2 ^ prec f) where
   -- the truncation, cast
   abbrev cast : Float → Float
   cast x = ofInt f (toSigned h x)
 
   module _ (m : ℕ) (e : ℤ) where
-    lt-neg : lt (fin true m e) (cast (fin true m e)) ≡ ltb (part m e (2 ^ h) * down e) (m * up e)
+    lt-neg : lt (fin true m e) (cast (fin true m e)) ≡ ltb (part (m * up e) (down e) (2 ^ h) * down e) (m * up e)
     unfolding toSigned
     lt-neg =
         lt-whole true m e (cast (fin true m e)) _ _ (cast-value f h (toSigned h (fin true m e)) w (toSigned-in h (fin true m e)))
-        ∙ neg-r (part m e (2 ^ h)) (m * up e) (down e)
+        ∙ neg-r (part (m * up e) (down e) (2 ^ h)) (m * up e) (down e)
 
     lt-pos : lt (fin false m e) (cast (fin false m e)) ≡ false
     unfolding toSigned
     lt-pos =
         lt-whole false m e (cast (fin false m e)) _ _ (cast-value f h (toSigned h (fin false m e)) w (toSigned-in h (fin false m e)))
-        ∙ never-below (m * up e) (down e) (2 ^ h - 1) (part m e (2 ^ h - 1)) (down-pos e) refl
+        ∙ never-below (m * up e) (down e) (2 ^ h - 1) (down-pos e)
 
     gt-neg : lt (cast (fin true m e)) (fin true m e) ≡ false
     unfolding toSigned
     gt-neg =
         whole-lt true m e (cast (fin true m e)) _ _ (cast-value f h (toSigned h (fin true m e)) w (toSigned-in h (fin true m e)))
-        ∙ neg-l (part m e (2 ^ h)) (m * up e) (down e) (never-below (m * up e) (down e) (2 ^ h) (part m e (2 ^ h)) (down-pos e) refl)
+        ∙ neg-l (part (m * up e) (down e) (2 ^ h)) (m * up e) (down e) (never-below (m * up e) (down e) (2 ^ h) (down-pos e))
 
-    gt-pos : lt (cast (fin false m e)) (fin false m e) ≡ ltb (part m e (2 ^ h - 1) * down e) (m * up e)
+    gt-pos : lt (cast (fin false m e)) (fin false m e) ≡ ltb (part (m * up e) (down e) (2 ^ h - 1) * down e) (m * up e)
     unfolding toSigned
     gt-pos = whole-lt false m e (cast (fin false m e)) _ _ (cast-value f h (toSigned h (fin false m e)) w (toSigned-in h (fin false m e)))
 
@@ -88,8 +87,8 @@ module _ (f : Format) (h : ℕ) (w : 2 ^ h ≤ 2 ^ prec f) where
   floor-down (inf true) a b = absurd (omega (arith, minus-above-yes (2 ^ h) (2 ^ h) (pow-pos h) b))
   floor-down (inf false) a b = absurd (true≢false (sym a ∙ high-lt (cast (inf false))))
   floor-down (fin true m e) a b =
-      minus-one (part m e (2 ^ h))
-      ∙ ap (λ (k : ℕ). negℤ (pos k)) (sym (one-more (m * up e) (down e) (2 ^ h) (part m e (2 ^ h)) (down-pos e) refl (sym (lt-neg m e) ∙ a) (minus-above-yes (2 ^ h) (part m e (2 ^ h)) (pow-pos h) b)))
+      minus-one _
+      ∙ ap minus (sym (one-more (m * up e) (down e) (2 ^ h) (down-pos e) (sym (lt-neg m e) ∙ a) (minus-above-yes (2 ^ h) _ (pow-pos h) b)))
   floor-down (fin false m e) a b = absurd (true≢false (sym a ∙ lt-pos m e))
 
   pub floor-end : (x : Float) → lt x (cast x) ≡ true → ltZ (lowest h) (toSigned h x) ≡ false → toSigned h x ≡ floorTo h x
@@ -98,7 +97,7 @@ module _ (f : Format) (h : ℕ) (w : 2 ^ h ≤ 2 ^ prec f) where
   floor-end (inf true) a b = refl
   floor-end (inf false) a b = refl
   floor-end (fin true m e) a b =
-      ap (λ (k : ℕ). negℤ (pos k)) (sym (at-end (m * up e) (down e) (2 ^ h) (part m e (2 ^ h)) (down-pos e) refl (minus-above-no (2 ^ h) (part m e (2 ^ h)) (pow-pos h) b)))
+      ap minus (sym (at-end (m * up e) (down e) (2 ^ h) (down-pos e) (minus-above-no (2 ^ h) _ (pow-pos h) b)))
   floor-end (fin false m e) a b = refl
 
   pub floor-same : (x : Float) → lt x (cast x) ≡ false → toSigned h x ≡ floorTo h x
@@ -106,7 +105,7 @@ module _ (f : Format) (h : ℕ) (w : 2 ^ h ≤ 2 ^ prec f) where
   floor-same nan a = refl
   floor-same (inf true) a = refl
   floor-same (inf false) a = refl
-  floor-same (fin true m e) a = ap (λ (k : ℕ). negℤ (pos k)) (sym (no-more (m * up e) (down e) (2 ^ h) (part m e (2 ^ h)) (down-pos e) refl (sym (lt-neg m e) ∙ a)))
+  floor-same (fin true m e) a = ap minus (sym (no-more (m * up e) (down e) (2 ^ h) (down-pos e) (sym (lt-neg m e) ∙ a)))
   floor-same (fin false m e) a = refl
 
   -- ---- ceil
@@ -118,7 +117,7 @@ module _ (f : Format) (h : ℕ) (w : 2 ^ h ≤ 2 ^ prec f) where
   ceil-up (inf false) a b = absurd (omega (arith, ltb-true (2 ^ h - 1) (2 ^ h - 1) b))
   ceil-up (fin true m e) a b = absurd (true≢false (sym a ∙ gt-neg m e))
   ceil-up (fin false m e) a b =
-      ap pos (add-one (part m e (2 ^ h - 1)) ∙ sym (one-more (m * up e) (down e) (2 ^ h - 1) (part m e (2 ^ h - 1)) (down-pos e) refl (sym (gt-pos m e) ∙ a) (ltb-true (part m e (2 ^ h - 1)) (2 ^ h - 1) b)))
+      ap pos (add-one _ ∙ sym (one-more (m * up e) (down e) (2 ^ h - 1) (down-pos e) (sym (gt-pos m e) ∙ a) (ltb-true _ (2 ^ h - 1) b)))
 
   pub ceil-end : (x : Float) → lt (cast x) x ≡ true → ltZ (toSigned h x) (highest h) ≡ false → toSigned h x ≡ ceilTo h x
   unfolding toSigned ceilTo
@@ -126,7 +125,7 @@ module _ (f : Format) (h : ℕ) (w : 2 ^ h ≤ 2 ^ prec f) where
   ceil-end (inf true) a b = refl
   ceil-end (inf false) a b = refl
   ceil-end (fin true m e) a b = refl
-  ceil-end (fin false m e) a b = ap pos (sym (at-end (m * up e) (down e) (2 ^ h - 1) (part m e (2 ^ h - 1)) (down-pos e) refl (ltb-false (part m e (2 ^ h - 1)) (2 ^ h - 1) b)))
+  ceil-end (fin false m e) a b = ap pos (sym (at-end (m * up e) (down e) (2 ^ h - 1) (down-pos e) (ltb-false _ (2 ^ h - 1) b)))
 
   pub ceil-same : (x : Float) → lt (cast x) x ≡ false → toSigned h x ≡ ceilTo h x
   unfolding toSigned ceilTo
@@ -134,7 +133,7 @@ module _ (f : Format) (h : ℕ) (w : 2 ^ h ≤ 2 ^ prec f) where
   ceil-same (inf true) a = refl
   ceil-same (inf false) a = refl
   ceil-same (fin true m e) a = refl
-  ceil-same (fin false m e) a = ap pos (sym (no-more (m * up e) (down e) (2 ^ h - 1) (part m e (2 ^ h - 1)) (down-pos e) refl (sym (gt-pos m e) ∙ a)))
+  ceil-same (fin false m e) a = ap pos (sym (no-more (m * up e) (down e) (2 ^ h - 1) (down-pos e) (sym (gt-pos m e) ∙ a)))
 
 -- ---- both are in the range
 

@@ -1,8 +1,8 @@
 -- Truncation by the tests against -2 ^ h and 2 ^ h: between them a wider truncation gives the same, and outside it is an end of the range, or 0 for NaN.
 use mathlib.Core.Path.{_≡_, refl, sym, ap, _∙_}
 use mathlib.Core.Bool.{Bool, true, false, not, true≢false}
-use Prim.Native.Nat.{ℕ, _+_, _-_, _*_, _/_, _^_, _≤_, _<_, min}
-use native.Mathlib.Nat.{one-mul, mul-pos, mul-le-mul-right, le-div-iff-mul-le, div-lt-iff-lt-mul, div-mul-le-self, le-of-mul-le-mul-right, le-trans, lt-of-lt-of-le}
+use Prim.Native.Nat.{ℕ, _+_, _*_, _/_, _^_, _≤_, _<_, min}
+use native.Mathlib.Nat.{one-mul, mul-pos, mul-le-mul-right, le-div-iff-mul-le, div-lt-iff-lt-mul, div-mul-le-self, le-of-mul-le-mul-right, le-trans, le-of-lt, lt-of-lt-of-le}
 use native.Mathlib.Omega.{arith}
 use lib.IntN.{ℤ, pos, negℤ}
 use lib.Pow.{pow-pos, pow-mono}
@@ -30,29 +30,29 @@ module _ (h : ℕ) (s : Bool) (m : ℕ) (e : ℤ) where
   unfolding isNan
   le-least = le-total (least h) (fin s m e) refl refl ∙ ap not lt-least
 
--- ---- on the fraction n / d
+-- ---- what the tests say of the fraction and of its whole part
 
-module _ (h n d : ℕ) (p : 0 < d) where
-  whole-le : n ≤ 2 ^ h * d → n / d ≤ 2 ^ h
-  whole-le l = le-of-mul-le-mul-right (le-trans (div-mul-le-self n d) l) p
+module _ (h m : ℕ) (e : ℤ) where
+  bound-pos : 0 < 2 ^ h * down e
+  bound-pos = mul-pos (pow-pos h) (down-pos e)
 
-  whole-lt : n < 2 ^ h * d → n / d < 2 ^ h
-  whole-lt l = div-lt-iff-lt-mul p .1 l
+  not-below : le (least h) (fin true m e) ≡ true → m * up e ≤ 2 ^ h * down e
+  not-below a = ltb-false (2 ^ h * down e) (m * up e) (not-true _ (sym (le-least h true m e) ∙ a))
 
-  whole-ge : 2 ^ h * d ≤ n → 2 ^ h ≤ n / d
-  whole-ge l = le-div-iff-mul-le p .1 l
+  short-of : lt (fin false m e) (most h) ≡ true → m * up e < 2 ^ h * down e
+  short-of b = ltb-true (m * up e) (2 ^ h * down e) (sym (lt-most h false m e) ∙ b)
 
-  bound-pos : 0 < 2 ^ h * d
-  bound-pos = mul-pos (pow-pos h) p
+  part-not-below : le (least h) (fin true m e) ≡ true → m * up e / down e ≤ 2 ^ h
+  part-not-below a = le-of-mul-le-mul-right (le-trans (div-mul-le-self (m * up e) (down e)) (not-below a)) (down-pos e)
 
--- ---- what the tests say
+  part-short-of : lt (fin false m e) (most h) ≡ true → m * up e / down e < 2 ^ h
+  part-short-of b = div-lt-iff-lt-mul (down-pos e) .1 (short-of b)
 
--- a negative number is not below the least, and a positive one is below the most
-not-below : (h m : ℕ) (e : ℤ) → le (least h) (fin true m e) ≡ true → m * up e ≤ 2 ^ h * down e
-not-below h m e a = ltb-false (2 ^ h * down e) (m * up e) (not-true _ (sym (le-least h true m e) ∙ a))
+  part-below : lt (fin true m e) (least h) ≡ true → 2 ^ h ≤ m * up e / down e
+  part-below a = le-div-iff-mul-le (down-pos e) .1 (le-of-lt (ltb-true (2 ^ h * down e) (m * up e) (sym (lt-least h true m e) ∙ a)))
 
-short-of : (h m : ℕ) (e : ℤ) → lt (fin false m e) (most h) ≡ true → m * up e < 2 ^ h * down e
-short-of h m e b = ltb-true (m * up e) (2 ^ h * down e) (sym (lt-most h false m e) ∙ b)
+  part-beyond : lt (fin false m e) (most h) ≡ false → 2 ^ h ≤ m * up e / down e
+  part-beyond b = le-div-iff-mul-le (down-pos e) .1 (ltb-false (m * up e) (2 ^ h * down e) (sym (lt-most h false m e) ∙ b))
 
 -- ---- between the bounds, for a width k that is no narrower
 
@@ -65,14 +65,10 @@ module _ (h k : ℕ) (w : h ≤ k) where
   same-wider nan a b = absurd (true≢false (sym b))
   same-wider (inf true) a b = absurd (true≢false (sym a))
   same-wider (inf false) a b = absurd (true≢false (sym b))
-  same-wider (fin true m e) a b = ap (λ (n : ℕ). negℤ (pos n)) (uncut (m * up e / down e) (2 ^ h) (2 ^ k) wider (whole-le h (m * up e) (down e) (down-pos e) (not-below h m e a)))
-    where
-      uncut : (q a b : ℕ) → a ≤ b → q ≤ a → min q b ≡ min q a
-      uncut q a b l h = omega arith
-  same-wider (fin false m e) a b = ap pos (uncut (m * up e / down e) (2 ^ h) (2 ^ k) wider (whole-lt h (m * up e) (down e) (down-pos e) (short-of h m e b)))
-    where
-      uncut : (q a b : ℕ) → a ≤ b → q < a → min q (b - 1) ≡ min q (a - 1)
-      uncut q a b l h = omega arith
+  same-wider (fin true m e) a b =
+      let same : min (m * up e / down e) (2 ^ k) ≡ min (m * up e / down e) (2 ^ h) = omega (arith, wider, part-not-below h m e a) in
+      ap (λ (n : ℕ). negℤ (pos n)) same
+  same-wider (fin false m e) a b = ap pos (omega (arith, wider, part-short-of h m e b))
 
   pub least-wider : (x : Float) → le (least h) x ≡ true → le (least k) x ≡ true
   unfolding le lt eq
@@ -89,7 +85,7 @@ module _ (h k : ℕ) (w : h ≤ k) where
   most-wider nan b = b
   most-wider (inf true) b = refl
   most-wider (inf false) b = b
-  most-wider (fin true m e) b = lt-most k true m e ∙ lt-ltb 0 (m * up e + 2 ^ k * down e) (omega (arith, bound-pos k (m * up e) (down e) (down-pos e)))
+  most-wider (fin true m e) b = lt-most k true m e ∙ lt-ltb 0 (m * up e + 2 ^ k * down e) (omega (arith, bound-pos k m e))
   most-wider (fin false m e) b =
       lt-most k false m e
       ∙ lt-ltb (m * up e) (2 ^ k * down e) (lt-of-lt-of-le (short-of h m e b) (mul-le-mul-right (down e) wider))
@@ -102,13 +98,8 @@ module _ (h : ℕ) where
   too-high nan a b = absurd (true≢false (sym a))
   too-high (inf true) a b = absurd (true≢false (sym a))
   too-high (inf false) a b = refl
-  too-high (fin true m e) a b =
-      absurd (omega (arith, bound-pos h (m * up e) (down e) (down-pos e), ltb-false 0 (m * up e + 2 ^ h * down e) (sym (lt-most h true m e) ∙ b)))
-  too-high (fin false m e) a b =
-      ap pos (cut (m * up e / down e) (2 ^ h) (whole-ge h (m * up e) (down e) (down-pos e) (ltb-false (m * up e) (2 ^ h * down e) (sym (lt-most h false m e) ∙ b))))
-    where
-      cut : (q a : ℕ) → a ≤ q → a - 1 ≡ min q (a - 1)
-      cut q a l = omega arith
+  too-high (fin true m e) a b = absurd (omega (arith, bound-pos h m e, ltb-false 0 (m * up e + 2 ^ h * down e) (sym (lt-most h true m e) ∙ b)))
+  too-high (fin false m e) a b = ap pos (omega (arith, part-beyond h m e b))
 
   pub too-low : (x : Float) → lt x (least h) ≡ true → lowest h ≡ toSigned h x
   unfolding toSigned lt
@@ -116,13 +107,8 @@ module _ (h : ℕ) where
   too-low (inf true) a = refl
   too-low (inf false) a = absurd (true≢false (sym a))
   too-low (fin true m e) a =
-      ap (λ (n : ℕ). negℤ (pos n)) (cut (m * up e / down e) (2 ^ h) (whole-ge h (m * up e) (down e) (down-pos e) (below-it (ltb-true (2 ^ h * down e) (m * up e) (sym (lt-least h true m e) ∙ a)))))
-    where
-      cut : (q a : ℕ) → a ≤ q → a ≡ min q a
-      cut q a l = omega arith
-
-      below-it : {a b : ℕ} → a < b → a ≤ b
-      below-it l = omega arith
+      let cut : 2 ^ h ≡ min (m * up e / down e) (2 ^ h) = omega (arith, part-below h m e a) in
+      ap (λ (n : ℕ). negℤ (pos n)) cut
   too-low (fin false m e) a = absurd (true≢false (sym a ∙ lt-least h false m e))
 
   pub no-number : (x : Float) → le (least h) x ≡ false → lt x (least h) ≡ false → pos 0 ≡ toSigned h x
