@@ -1,27 +1,27 @@
--- `grid::of_numbers` meets its contract.
+-- `grid::grid_limits` meets its contract.
 use borrow.Author.Needs.{needs}
 use mathlib.Core.Path.{_≡_}
 use Rattle.replies.specs.Said.{Said}
 use Rattle.grid.specs.Grid.{numbers, sizes, firstOutside}
 use Rattle.grid.proofs.Tests.{passed, failed}
 use Rattle.grid.proofs.Outside.{min-outside, max-outside, both-inside}
-use Rattle.grid.proofs.of_numbers.Statement.{statement}
-use Rattle.grid.proofs.of_numbers.Tie as tie
+use Rattle.grid.proofs.grid_limits.Statement.{statement}
+use Rattle.grid.proofs.grid_limits.Tie as tie
 
-of-corner-requires : tie.Need-of-corner-requires
-of-corner-requires c κs = search needs
+corner-limits-requires : tie.Need-corner-limits-requires
+corner-limits-requires c κs = search needs
 
 enum-known-x : tie.Need-enum-known-x
 enum-known-x c = search needs
 
 returns : tie.Need-returns
-returns c = min-outside _ (c .before .before .before .of-corner .ensures) (c .before .x .given .1)
+returns c = min-outside _ (c .before .before .before .corner-limits .ensures) (c .before .x .given .1)
 
 enum-told : tie.Need-enum-told
 enum-told c = search needs
 
-of-corner-requires-2 : tie.Need-of-corner-requires-2
-of-corner-requires-2 c κs = search needs
+corner-limits-requires-2 : tie.Need-corner-limits-requires-2
+corner-limits-requires-2 c κs = search needs
 
 enum-known-x-2 : tie.Need-enum-known-x-2
 enum-known-x-2 c = search needs
@@ -29,7 +29,7 @@ enum-known-x-2 c = search needs
 returns-2 : tie.Need-returns-2
 returns-2 c =
     let d = c .before .before .before in
-    max-outside _ (d .before .before .before .of-corner .ensures) (d .before .enum-told .given .1) (d .of-corner2 .ensures) (c .before .x2 .given .1)
+    max-outside _ (d .before .before .before .corner-limits .ensures) (d .before .enum-told .given .1) (d .corner-limits2 .ensures) (c .before .x2 .given .1)
 
 enum-told-2 : tie.Need-enum-told-2
 enum-told-2 c = search needs
@@ -39,7 +39,7 @@ sizes-decide : (c : tie.After-enum-told2) (next : Said)
     → firstOutside (numbers (c .before .before .before .before .before .before .args .g)) next ≡ firstOutside (sizes (c .before .before .before .before .before .before .args .g)) next
 sizes-decide c next =
     let d = c .before .before in
-    both-inside _ (d .before .before .before .of-corner .ensures) (d .before .enum-told .given .1) (d .of-corner2 .ensures) (c .enum-told2 .given .1) next
+    both-inside _ (d .before .before .before .corner-limits .ensures) (d .before .enum-told .given .1) (d .corner-limits2 .ensures) (c .enum-told2 .given .1) next
 
 cell-requires : tie.Need-cell-requires
 cell-requires c κs = search needs
@@ -63,15 +63,15 @@ returns-5 c next =
     let d = c .before .before in
     rw (sizes-decide (d .before .before) next, passed (d .before .cell .ensures) (d .if1 .left), passed (c .before .cell2 .ensures) (c .if2 .left))
 
-pub of-numbers-spec : {M : Type 1} → statement M
-of-numbers-spec =
+pub grid-limits-spec : {M : Type 1} → statement M
+grid-limits-spec =
     tie.close
     (tie.spec
-    of-corner-requires
+    corner-limits-requires
     enum-known-x
     returns
     enum-told
-    of-corner-requires-2
+    corner-limits-requires-2
     enum-known-x-2
     returns-2
     enum-told-2
