@@ -1,13 +1,12 @@
 -- Two different answers never say the same, so what a call says fixes its answer. Then what a caller may conclude:
 -- which answer an accepted call gives, and that reading a link undoes setting it.
-use mathlib.Core.Path.{_≡_, refl, sym, ap, ap₂, _∙_}
+use mathlib.Core.Path.{_≡_, refl, sym, ap, ap₂}
 use mathlib.Core.Bool.{Bool, true, false}
-use mathlib.Core.List.{List}
 use Prim.Native.Nat.{ℕ, _≤_, _<_}
 use native.Mathlib.Omega.{arith}
 use borrow.Author.Tests.{ltb-false, eqb-true, le-ltb, ne-eqb}
 use lib.Dec.{eqb}
-use Rattle.replies.specs.Said.{Said, Value}
+use Rattle.replies.specs.Said.{Said}
 use Rattle.compact_span.specs.declared.CompactSpan.{CompactSpan}
 use Rattle.compact_span.specs.declared.Link.{Link}
 use Rattle.compact_span.specs.declared.Link.the-variants.{Empty, To}

@@ -35,6 +35,8 @@ impl CompactSpan {
     // The mark of an empty link.
     pub const NOT_CONNECTED: u8 = 63;
 
+    const LAST_DIRECTION: u8 = 3;
+
     // A span with no links.
     pub fn new(y: u16, height: u8) -> Self
         ensures { λ r. ⌜ r ≡ freshSpan y height ⌝ }
@@ -106,21 +108,21 @@ impl CompactSpan {
     pub fn con(self, dir: u8) -> Con
         ensures { λ r. ⌜ saidOfCon r ≡ conSays self dir ⌝ }
     {
-        if 3 < dir {
+        if Self::LAST_DIRECTION < dir {
             return Con::Refused;
         }
         let shift = (dir as u32) * 6;
-        let number = ((self.data >> shift) & 0x3f) as u8;
-        if number == Self::NOT_CONNECTED {
+        let number = (self.data >> shift) & 0x3f;
+        if number == Self::NOT_CONNECTED as u32 {
             return Con::Link(Link::Empty);
         }
-        Con::Link(Link::To(number))
+        Con::Link(Link::To(number as u8))
     }
 
     pub fn set_con(self, dir: u8, link: Link) -> Linked
         ensures { λ r. ⌜ saidOfLinked r ≡ setConSays self dir link ⌝ }
     {
-        if 3 < dir {
+        if Self::LAST_DIRECTION < dir {
             return Linked::Refused;
         }
         match link {

@@ -7,8 +7,6 @@ use Rattle.compact_span.specs.Word.{held}
 use Rattle.compact_span.proofs.Bits.{below-law}
 use Rattle.compact_span.proofs.CompactSpan.below.Statement.{statement}
 use Rattle.compact_span.proofs.CompactSpan.below.Tie as tie
-use Rattle.compact_span.proofs.CompactSpan.below.Reads as reads
-use Rattle.compact_span.proofs.CompactSpan.below.Lts as lts
 
 returns : tie.Need-returns
 returns c =
