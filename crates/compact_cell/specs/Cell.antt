@@ -19,8 +19,8 @@ raisedCell c = cellOf (c .index) (countAfter (c .count))
 
 -- whether a place is a cell of the slices
 abbrev pub isCell : List ℕ → List ℕ → ℕ → Bool
-isCell indices counts c = ltb c (length indices) && ltb c (length counts)
+isCell indices counts p = ltb p (length indices) && ltb p (length counts)
 
--- all counts, with the one at a place raised; elsewhere than at a cell nothing changes
+-- all counts, with the one at a place raised; a place that is no cell changes nothing
 abbrev pub raisedCounts : List ℕ → List ℕ → ℕ → List ℕ
-raisedCounts indices counts c = cond (isCell indices counts c) (set counts c (countAfter (getD counts c 0))) counts
+raisedCounts indices counts p = cond (isCell indices counts p) (set counts p (countAfter (getD counts p 0))) counts

@@ -109,7 +109,7 @@ fn next_count(count: u8) -> u8
     if count < CompactCell::MAX_COUNT {
         count + 1
     } else {
-        count
+        CompactCell::MAX_COUNT
     }
 }
 
