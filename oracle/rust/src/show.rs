@@ -34,19 +34,18 @@ fn line(out: &mut impl Write, name: &str, numbers: impl Iterator<Item = u32>) ->
 }
 
 pub fn raw(out: &mut impl Write, field: &Heightfield, total: usize) -> Result<()> {
-    // floor, ceiling, area, next of each slot; the original may have used more slots than were said
-    let used = field
-        .allocated_spans
-        .keys()
-        .map(|key| slot(key) + 1)
-        .max()
-        .unwrap_or(0);
-    let mut slots = vec![[0, 0, 0, NONE]; total.max(used)];
+    // the original may have gone past the slots that were said, so the highest number counts
+    let free = free_chain(field, total);
+    let taken = field.allocated_spans.keys().map(slot);
+    let highest = taken.chain(free.iter().copied()).max();
+    let count = total.max(highest.map_or(0, |slot| slot + 1));
+
+    // floor, ceiling, area, next of each slot
+    let mut slots = vec![[0, 0, 0, NONE]; count];
     for (key, span) in field.allocated_spans.iter() {
         let next = slot_or_none(span.next);
         slots[slot(key)] = [span.min as u32, span.max as u32, span.area.0 as u32, next];
     }
-    let free = free_chain(field, slots.len());
     for pair in free.windows(2) {
         slots[pair[0]][3] = pair[1] as u32;
     }
