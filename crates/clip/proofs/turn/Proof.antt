@@ -1,0 +1,38 @@
+-- `clip::turn` meets its contract.
+use borrow.Author.Needs.{needs}
+use native.Mathlib.Omega.{arith}
+use lib.Ieee.{ofBits}
+use Rattle.clip.specs.Cut.{toFirst, toSecond}
+use Rattle.clip.proofs.Rounds.{crossed, grown-counts}
+use Rattle.clip.proofs.turn.Statement.{statement}
+use Rattle.clip.proofs.turn.Tie as tie
+
+join-requires : tie.Need-join-requires
+join-requires c κs = search needs
+
+returns : tie.Need-returns
+unfolding ofBits toFirst toSecond
+returns c = rw (c .before .before .before .before .before .before .before .if1 .taken) (c .join .ensures)
+
+crossing-requires : tie.Need-crossing-requires
+crossing-requires c κs = search needs
+
+join-requires-2 : tie.Need-join-requires-2
+join-requires-2 c κs = search needs
+
+join-requires-3 : tie.Need-join-requires-3
+join-requires-3 c κs =
+    let n = grown-counts _ _ _ _ _ (c .before .before .before .before .before .before .join2 .ensures) in
+    (omega arith, omega arith)
+
+returns-2 : tie.Need-returns-2
+unfolding ofBits
+returns-2 c =
+    let two = c .before .before .before .before .before .before .before in
+    let one = two .before .before .before .before .before .before .before in
+    crossed _ _ _ _ _ _ _ _ _ (one .before .if1 .left) (one .crossing .ensures) (two .join2 .ensures) (c .join3 .ensures)
+
+pub turn-spec : {M : Type 1} → statement M
+turn-spec =
+    tie.close
+    (tie.spec join-requires returns crossing-requires join-requires-2 join-requires-3 returns-2)
