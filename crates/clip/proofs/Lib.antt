@@ -1,2 +1,5 @@
 pub mod Places
 pub mod Rounds
+pub mod Folds
+pub mod Holds
+pub mod Snaps

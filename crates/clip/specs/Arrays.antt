@@ -20,6 +20,11 @@ pub record Arrays : Type 0 where
 abbrev pub arrays : List Float → List Float → List Float → Arrays
 arrays xs ys zs = record { xs = xs; ys = ys; zs = zs }
 
+-- the n numbers that stand from a place on
+abbrev pub numbersAt : List Float → ℕ → ℕ → List Float
+numbersAt l from zero = []
+numbersAt l from (suc n) = getD l from nan ∷ numbersAt l (suc from) n
+
 -- the vertex at a place
 abbrev pub vertexAt : Arrays → ℕ → Corner
 vertexAt a at = record { x = getD (a .xs) at nan; y = getD (a .ys) at nan; z = getD (a .zs) at nan }

@@ -1,2 +1,4 @@
 pub mod Cut
 pub mod Arrays
+pub mod Slices
+pub mod Snap

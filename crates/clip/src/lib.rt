@@ -1,12 +1,12 @@
 // From a triangle to the cells that it meets: cutting polygons, and snapping a cell's part to whole heights.
 ghost use mathlib.Core.Path.{_≡_};
-ghost use mathlib.Core.Logic.{_⊎_};
-ghost use mathlib.Core.Bool.{not};
-ghost use Prim.Native.Nat.{_+_, _-_, _≤_, _<_};
+ghost use Prim.Native.Nat.{_+_, _≤_, _<_, min};
 ghost use mathlib.Core.List.{[], _∷_};
 ghost use lib.ListN.{length};
 ghost use Rattle.clip.specs.Cut.{along, crossingOf, joining, toFirst, toSecond, firstOf, secondOf};
-ghost use Rattle.clip.specs.Arrays.{arrays, vertexAt, polygonAt, written, half, countsOf, Apart, divided, divideOf, grown};
+ghost use Rattle.clip.specs.Arrays.{arrays, numbersAt, vertexAt, polygonAt, written, half, countsOf, Apart, divided, divideOf, grown};
+ghost use Rattle.clip.specs.Slices.{leastOf, greatestOf, cellOf, edgeOf, heldTo, heldFirst, heldLast};
+ghost use Rattle.clip.specs.Snap.{maxHeight, snapSays, saidOf};
 use grid::Corner;
 
 pub enum Axis {
@@ -213,4 +213,129 @@ pub fn divide(
     let from = half_at(upper);
     let to = half_at(!upper);
     go_round(xs, ys, zs, from, to, n, axis, offset, rx, ry, rz)
+}
+
+// How many of an array's numbers n of them are.
+fn counted(n: usize) -> usize
+    ensures { λ r. ⌜ r ≡ min n 28 ⌝ }
+{
+    if n < 28 { n } else { 28 }
+}
+
+// The least of the first n numbers.
+pub fn least_of(v: &[f32; 28], n: usize) -> f32
+    ensures { λ r. ⌜ r ≡ leastOf (numbersAt (now (v .entry)) 0 (min n 28)) ⌝ }
+{
+    let m = counted(n);
+    if m == 0 {
+        return 0.0;
+    }
+    let mut y = v[0];
+    let mut i = 1;
+    while i < m {
+        y = ops::lesser(y, v[i]);
+        i += 1;
+    }
+    y
+}
+
+// The greatest of the first n numbers.
+pub fn greatest_of(v: &[f32; 28], n: usize) -> f32
+    ensures { λ r. ⌜ r ≡ greatestOf (numbersAt (now (v .entry)) 0 (min n 28)) ⌝ }
+{
+    let m = counted(n);
+    if m == 0 {
+        return 0.0;
+    }
+    let mut y = v[0];
+    let mut i = 1;
+    while i < m {
+        y = ops::greater(y, v[i]);
+        i += 1;
+    }
+    y
+}
+
+// The row or column that a coordinate lies in.
+pub fn cell_at(start: f32, inverse: f32, v: f32) -> i32
+    ensures { λ r. ⌜ r ≡ cellOf start inverse v ⌝ }
+{
+    ops::truncate((v - start) * inverse)
+}
+
+// Where the row or column with this number ends.
+pub fn edge(start: f32, size: f32, at: i16) -> f32
+    ensures { λ r. ⌜ r ≡ edgeOf start size at ⌝ }
+{
+    (start + (at as f32) * size) + size
+}
+
+fn held(v: i32, low: u32, high: u32) -> u32
+    requires { ⌜ low ≤ high ⌝ }
+    ensures { λ r. ⌜ r ≡ heldTo low high v ⌝ }
+{
+    if v < 0 {
+        return low;
+    }
+    let n = v as u32;
+    if n < low {
+        return low;
+    }
+    if n > high {
+        return high;
+    }
+    n
+}
+
+// v held to -1..last.
+pub fn held_first(v: i32, last: u32) -> i32
+    ensures { λ r. ⌜ r ≡ heldFirst last v ⌝ }
+{
+    if v < 0 {
+        return -1;
+    }
+    held(v, 0, last) as i32
+}
+
+// v held to 0..last.
+pub fn held_last(v: i32, last: u32) -> u32
+    ensures { λ r. ⌜ r ≡ heldLast last v ⌝ }
+{
+    held(v, 0, last)
+}
+
+const MAX_HEIGHT: u32 = 65535;
+
+// What a cell's part becomes.
+pub enum Snap {
+    // The part lies outside the box: nothing.
+    Outside,
+    // Reply 7: its floor is the largest height.
+    TooHigh,
+    // Its floor and its ceiling.
+    Span(u16, u16),
+}
+
+// The heights of a part whose y goes from `lowest` to `highest`, in a box that starts at `bottom` and is `tall`, with the inverse of the cell height.
+pub fn snap_of(lowest: f32, highest: f32, bottom: f32, tall: f32, inverse: f32) -> Snap
+    ensures { λ r. ⌜ saidOf r ≡ snapSays maxHeight lowest highest bottom tall inverse ⌝ }
+{
+    let low = lowest - bottom;
+    let high = highest - bottom;
+    if high < 0.0 {
+        return Snap::Outside;
+    }
+    if low > tall {
+        return Snap::Outside;
+    }
+    let floor = held(ops::floor(ops::greater(low, 0.0) * inverse), 0, MAX_HEIGHT);
+    if floor == MAX_HEIGHT {
+        return Snap::TooHigh;
+    }
+    let ceiling = held(
+        ops::ceil(ops::lesser(high, tall) * inverse),
+        floor + 1,
+        MAX_HEIGHT,
+    );
+    Snap::Span(floor as u16, ceiling as u16)
 }
