@@ -3,3 +3,4 @@ pub mod Rounds
 pub mod Folds
 pub mod Holds
 pub mod Snaps
+pub mod Tried

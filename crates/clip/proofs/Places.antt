@@ -1,6 +1,7 @@
 -- Of vertices in arrays: what is written stands where it was written, all else is kept, and a polygon is read place by place.
 use mathlib.Core.Path.{_≡_, refl, sym, ap, _∙_}
 use mathlib.Core.Logic.{_⊎_, inl, inr}
+use mathlib.Core.Bool.{Bool, _&&_}
 use mathlib.Core.List.{List, [], _∷_, _++_, map, map-append}
 use Prim.Native.Nat.{ℕ, zero, suc, _+_, _-_, _≤_, _<_}
 use native.Mathlib.Nat.{add-zero, add-suc, suc-add}
@@ -9,8 +10,10 @@ use lib.ListN.{length, length-map, length-append, length-set, getD, set}
 use lib.Seq.{sets, length-sets, getD-set-same, getD-set-other}
 use lib.Ieee.{Float, nan}
 use Rattle.grid.specs.declared.Corner.{Corner}
+use Rattle.clip.specs.declared.Frame.{Frame}
 use Rattle.clip.specs.Cut.{xOf, yOf, zOf}
-use Rattle.clip.specs.Arrays.{Arrays, arrays, vertexAt, polygonAt, written, Divided, countsOf, divided, grown}
+use Rattle.clip.specs.Arrays.{Arrays, numbersAt, vertexAt, polygonAt, written, Divided, countsOf, divided, grown}
+use Rattle.clip.specs.Work.{reachesOf, meetsOf}
 
 -- ---- a run of stores in two steps
 sets-append : {A : Type 0} (l : List A) (i : ℕ) (us vs : List A) → sets l i (us ++ vs) ≡ sets (sets l i us) (i + length us) vs
@@ -86,6 +89,20 @@ read-back n a at (v ∷ vs) h k =
     let rest : polygonAt (written b (suc at) vs) (suc at) (length vs) ≡ vs = read-back n b (suc at) vs (written-long n a at (v ∷ []) h) (omega arith) in
     cc
 
+-- ---- the coordinates of a polygon are the numbers that stand there
+coordinates : (f : Corner → Float) (l : List Float) (a : Arrays) → ((i : ℕ) → f (vertexAt a i) ≡ getD l i nan) → (from n : ℕ) → map f (polygonAt a from n) ≡ numbersAt l from n
+coordinates f l a h from zero = refl
+coordinates f l a h from (suc n) = cc (h from, coordinates f l a h (suc from) n)
+
+pub xs-of : (a : Arrays) (from n : ℕ) → map xOf (polygonAt a from n) ≡ numbersAt (a .xs) from n
+xs-of a from n = coordinates xOf (a .xs) a (λ i. refl) from n
+
+pub ys-of : (a : Arrays) (from n : ℕ) → map yOf (polygonAt a from n) ≡ numbersAt (a .ys) from n
+ys-of a from n = coordinates yOf (a .ys) a (λ i. refl) from n
+
+pub zs-of : (a : Arrays) (from n : ℕ) → map zOf (polygonAt a from n) ≡ numbersAt (a .zs) from n
+zs-of a from n = coordinates zOf (a .zs) a (λ i. refl) from n
+
 -- ---- more vertices in two steps
 pub grown-append : (to : ℕ) (d : Divided) (f f′ s s′ : List Corner) → grown to (grown to d f s) f′ s′ ≡ grown to d (f ++ f′) (s ++ s′)
 unfolding grown
@@ -94,3 +111,12 @@ grown-append to d f f′ s s′ =
     let n : d .counts .second + length s + length s′ ≡ d .counts .second + length (s ++ s′) = omega (arith, length-append s s′) in
     let k : to + (d .counts .second + length s) ≡ to + d .counts .second + length s = omega arith in
     rw (m, n, k, written-append (d .polygon) (to + d .counts .second) s s′, written-append (d .part) (d .counts .first) f f′)
+
+-- ---- the box of a polygon, by the numbers of its coordinates
+pub meets-by : (f : Frame) (a : Arrays) (n : ℕ) (p q r : Bool)
+    → p ≡ reachesOf (f .grid .min .x) (f .grid .max .x) (numbersAt (a .xs) 0 n)
+    → q ≡ reachesOf (f .grid .min .y) (f .grid .max .y) (numbersAt (a .ys) 0 n)
+    → r ≡ reachesOf (f .grid .min .z) (f .grid .max .z) (numbersAt (a .zs) 0 n)
+    → p && (q && r) ≡ meetsOf f (polygonAt a 0 n)
+unfolding meetsOf
+meets-by f a n p q r x y z = rw (xs-of a 0 n, ys-of a 0 n, zs-of a 0 n, x, y, z)
