@@ -1,5 +1,7 @@
 pub mod Places
 pub mod Rounds
+pub mod Cuts
+pub mod Polys
 pub mod Folds
 pub mod Holds
 pub mod Snaps

@@ -15,6 +15,13 @@ use Rattle.clip.specs.Cut.{xOf, yOf, zOf}
 use Rattle.clip.specs.Arrays.{Arrays, numbersAt, vertexAt, polygonAt, written, Divided, countsOf, divided, grown}
 use Rattle.clip.specs.Work.{reachesOf, meetsOf}
 
+-- ---- a polygon from its i-th vertex on
+pub polygon-next : (a : Arrays) (from n i : ℕ) → i < n → polygonAt a (from + i) (n - i) ≡ vertexAt a (from + i) ∷ polygonAt a (from + (i + 1)) (n - (i + 1))
+polygon-next a from n i h =
+    let e : n - i ≡ suc (n - (i + 1)) = omega arith in
+    let k : suc (from + i) ≡ from + (i + 1) = omega arith in
+    rw (e, k)
+
 -- ---- a run of stores in two steps
 sets-append : {A : Type 0} (l : List A) (i : ℕ) (us vs : List A) → sets l i (us ++ vs) ≡ sets (sets l i us) (i + length us) vs
 sets-append l i [] vs = rw (add-zero i)

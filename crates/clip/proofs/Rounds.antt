@@ -13,7 +13,7 @@ use Rattle.grid.specs.declared.Corner.{Corner}
 use Rattle.clip.specs.declared.Axis.{Axis}
 use Rattle.clip.specs.Cut.{nought, distance, crossingOf, agree, joining, toFirst, toSecond, onward, lastOf, around, givesFirst, givesSecond, firstOf, secondOf}
 use Rattle.clip.specs.Arrays.{Arrays, vertexAt, polygonAt, written, half, Apart, Divided, countsOf, divided, divideOf, grown}
-use Rattle.clip.proofs.Places.{Clear, polygon-kept, grown-append}
+use Rattle.clip.proofs.Places.{Clear, polygon-next, polygon-kept, grown-append}
 
 -- ---- a vertex gives at most two
 pub joining-one : (joins : Bool) (v : Corner) → length (joining joins v) ≤ 1
@@ -55,18 +55,11 @@ grown-two to i δ δ′ b a db da e h k =
     let n = grown-counts to δ δ′ (toFirst b a db da) (toSecond b a db da) e in
     (omega (arith, first-two b a db da), omega (arith, second-two b a db da))
 
--- ---- a polygon from its i-th vertex on
-next : (a : Arrays) (from n i : ℕ) → i < n → polygonAt a (from + i) (n - i) ≡ vertexAt a (from + i) ∷ polygonAt a (from + (i + 1)) (n - (i + 1))
-next a from n i h =
-    let e : n - i ≡ suc (n - (i + 1)) = omega arith in
-    let k : suc (from + i) ≡ from + (i + 1) = omega arith in
-    rw (e, k)
-
+-- ---- the vertex before the first
 last-is : (a : Arrays) (from k : ℕ) → lastOf (vertexAt a from) (polygonAt a (suc from) k) ≡ vertexAt a (from + k)
 last-is a from zero = rw (add-zero from)
 last-is a from (suc k) = rw (add-suc from k, ← suc-add from k) (last-is a (suc from) k)
 
--- the last vertex stands before the first
 pub around-is : (gives : Corner → Corner → List Corner) (a : Arrays) (from n : ℕ) → 0 < n → around gives (polygonAt a from n) ≡ onward gives (vertexAt a (from + n - 1)) (polygonAt a from n)
 unfolding around
 around-is gives a from zero h = absurd (omega arith)
@@ -113,7 +106,7 @@ module _ (axis : Axis) (offset : Float) (from to n : ℕ) where
       ∙ polygon-kept (δ .polygon) (to + δ .counts .second) (toSecond b a db da) (from + (i + 1)) (n - (i + 1))
       (turn-clear i (δ .counts .second) (length (toSecond b a db da)) apart inside few room (second-two b a db da)) in
       let left : still i b δ ≡ grown to δ (toFirst b a db da ++ onward (givesFirst axis offset) a vs) (toSecond b a db da ++ onward (givesSecond axis offset) a vs) =
-      rw (next (δ .polygon) from n i inside, ← here, ← eb, ← ea) in
+      rw (polygon-next (δ .polygon) from n i inside, ← here, ← eb, ← ea) in
       rw (kept, e) (grown-append to δ (toFirst b a db da) (onward (givesFirst axis offset) a vs) (toSecond b a db da) (onward (givesSecond axis offset) a vs) ∙ sym left)
 
 -- ---- the cut by the halves of the arrays
