@@ -5,4 +5,5 @@ pub mod Polys
 pub mod Folds
 pub mod Holds
 pub mod Snaps
+pub mod Works
 pub mod Tried

@@ -11,6 +11,7 @@ use lib.Ieee.{Float, le, lt}
 use borrow.Author.Tests.{le-leb, lt-leb}
 use Rattle.grid.specs.declared.Corner.{Corner}
 use Rattle.clip.specs.declared.Axis.{Axis}
+use Rattle.clip.specs.declared.Counts.{Counts}
 use Rattle.clip.specs.Cut.{nought, distance, crossingOf, agree, joining, toFirst, toSecond, onward, lastOf, around, givesFirst, givesSecond, firstOf, secondOf}
 use Rattle.clip.specs.Arrays.{Arrays, vertexAt, polygonAt, written, half, Apart, Divided, countsOf, divided, divideOf, grown}
 use Rattle.clip.proofs.Places.{Clear, polygon-next, polygon-kept, grown-append}
@@ -33,6 +34,13 @@ first-two b a db da = at-most-two (agree db da) (le nought da) (lt nought da) (c
 pub second-two : (b a : Corner) (db da : Float) → length (toSecond b a db da) ≤ 2
 unfolding toSecond
 second-two b a db da = at-most-two (agree db da) (le da nought) (lt da nought) (crossingOf b a db da) a
+
+-- ---- a vertex for each part
+pub joined : (to : ℕ) (p : Counts) (a b a′ b′ : Arrays) (f s : List Corner) (m n : ℕ)
+    → (m ≡ length f) × (b′ ≡ written b (p .first) f) → (n ≡ length s) × (a′ ≡ written a (to + p .second) s)
+    → divided (countsOf (p .first + m) (p .second + n)) a′ b′ ≡ grown to (divided p a b) f s
+unfolding grown
+joined to p a b a′ b′ f s m n d e = rw (d .0, d .1, e .0, e .1)
 
 -- ---- a vertex that joins after the crossing point
 pub crossed : (to : ℕ) (δ δ₁ δ₂ : Divided) (b a c : Corner) (db da : Float) → agree db da ≡ false → c ≡ crossingOf b a db da

@@ -82,6 +82,17 @@ module _ (largest : ℕ) (lowest highest bottom tall inverse : Float) where
   unfolding ceilingOf
   ceiling-above = omega (arith, held-ge (floor + 1) largest (ceilTo 31 (mul binary32 (lesserOf (high largest lowest highest bottom tall inverse) tall) inverse)))
 
+  -- what holds of nothing, of the top and of every span that has some height and stays below the largest holds of what is given
+  pub snapped-all : {A : Type 0} (P : A → Type 0) {nothing atTop : A} {span : ℕ → ℕ → A} → P nothing → P atTop → ((f c : ℕ) → f < c → c ≤ largest → P (span f c))
+      → P (snapped largest lowest highest bottom tall inverse nothing atTop span)
+  unfolding snapped
+  snapped-all P {nothing} {atTop} {span} n t s = go (outside largest lowest highest bottom tall inverse) (eqb floor largest) refl
+    where
+      go : (a b : Bool) → eqb floor largest ≡ b → P (cond a nothing (cond b atTop (span floor ceiling)))
+      go true b k = n
+      go false true k = t
+      go false false k = s floor ceiling ceiling-above (ceiling-le (omega (arith, floor-le, eqb-false floor largest k)))
+
   -- what is given passes through any map
   snapped-map : {A B : Type 0} (f : A → B) (nothing atTop : A) (span : ℕ → ℕ → A)
       → f (snapped largest lowest highest bottom tall inverse nothing atTop span) ≡ snapped largest lowest highest bottom tall inverse (f nothing) (f atTop) (λ m n. f (span m n))
@@ -103,14 +114,12 @@ module _ (largest : ℕ) (lowest highest bottom tall inverse : Float) where
 
     -- a span has some height, and stays below the largest
     pub span-heights : (f c : ℕ) → r ≡ Span f c → (f < c) × (c ≤ largest)
-    unfolding snapped
-    span-heights f c e = go (outside largest lowest highest bottom tall inverse) (eqb floor largest) refl (sym e ∙ snap-is)
-      where
-        go : (a b : Bool) → eqb floor largest ≡ b → Span f c ≡ cond a Outside (cond b TooHigh (Span floor ceiling)) → (f < c) × (c ≤ largest)
-        go true b k q = let z : _≡_ {A = ℕ} 0 1 = cc in absurd (omega arith)
-        go false true k q = let z : _≡_ {A = ℕ} 0 1 = cc in absurd (omega arith)
-        go false false k q =
-            let u : f ≡ floor = cc in
-            let v : c ≡ ceiling = cc in
-            let w : floor < largest = omega (arith, floor-le, eqb-false floor largest k) in
-            (omega (arith, ceiling-above), omega (arith, ceiling-le w))
+    span-heights f c e =
+        snapped-all (λ s. s ≡ Span f c → (f < c) × (c ≤ largest))
+        (λ q. let z : _≡_ {A = ℕ} 0 1 = cc in absurd (omega arith))
+        (λ q. let z : _≡_ {A = ℕ} 0 1 = cc in absurd (omega arith))
+        (λ floor ceiling h k q.
+        let u : floor ≡ f = cc in
+        let v : ceiling ≡ c = cc in
+        (omega arith, omega arith))
+        (sym snap-is ∙ e)

@@ -34,7 +34,7 @@ get-vertex-requires : tie.Need-get-vertex-requires Inv-loop μ-loop
 get-vertex-requires c κs = search needs
 
 coordinate-requires : tie.Need-coordinate-requires Inv-loop μ-loop
-coordinate-requires c κs = search needs
+coordinate-requires c κs = tt
 
 loop-holds : tie.Need-loop-holds Inv-loop μ-loop
 loop-holds c = (omega arith, omega arith, omega arith, ap (λ (x : Float). sub binary32 (c .before .before .before .before .before .args .offset) x) (c .coordinate .ensures), refl)
@@ -43,19 +43,23 @@ add-get-vertex-2 : tie.Need-add-get-vertex-2 Inv-loop μ-loop
 add-get-vertex-2 c = search needs
 
 get-vertex-requires-2 : tie.Need-get-vertex-requires-2 Inv-loop μ-loop
-get-vertex-requires-2 c κs = search needs
+get-vertex-requires-2 c κs = omega arith
 
 coordinate-requires-2 : tie.Need-coordinate-requires-2 Inv-loop μ-loop
-coordinate-requires-2 c κs = search needs
+coordinate-requires-2 c κs = tt
 
 turn-requires : tie.Need-turn-requires Inv-loop μ-loop
-turn-requires c κs = (search needs, search needs)
+turn-requires c κs =
+    let inside = c .before .before .before .before .before .before .before .before .before .before .before in
+    let v = inside .before .loop in
+    let s = inside .before .before .before .before .before .before .before in
+    (omega (arith, inside .loop-test .taken, v .inv .1, s .pre .2), omega (arith, inside .loop-test .taken, v .inv .2, s .pre .0 .writes, s .pre .2))
 
 add-i : tie.Need-add-i Inv-loop μ-loop
 add-i c = record { fits = omega (arith, c .before .before .before .before .before .before .before .before .before .before .before .before .loop-test .taken, c .before .before .before .before .before .before .before .before .before .before .before .before .before .before .before .before .before .before .before .pre .2) }
 
 loop-less : tie.Need-loop-less Inv-loop μ-loop
-loop-less c = search needs
+loop-less c = omega (arith, c .before .before .before .before .before .before .before .before .before .before .before .before .loop-test .taken)
 
 loop-again : tie.Need-loop-again Inv-loop μ-loop
 loop-again c =
@@ -67,12 +71,15 @@ loop-again c =
     let a = s .args in
     let vertex = read .get-vertex2 .result in
     let da : sub binary32 (a .offset) (measured .coordinate2 .result) ≡ distance (a .axis) (a .offset) vertex = ap (λ (x : Float). sub binary32 (a .offset) x) (measured .coordinate2 .ensures) in
-    let few = grown-two (a .to) (v .i) _ _ _ _ _ _ (c .turn .ensures) (v .inv .1) (v .inv .2) in (
-      omega arith,
+    let l = c .turn .last in
+    let δ : Divided = divided (v .p) (arrays (v .xs) (v .ys) (v .zs)) (arrays (v .rx) (v .ry) (v .rz)) in
+    let δ′ : Divided = divided (c .turn .result) (arrays (l .0) (l .1 .0) (l .1 .1 .0)) (arrays (l .1 .1 .1 .0) (l .1 .1 .1 .1 .0) (l .1 .1 .1 .1 .1 .0)) in
+    let few = grown-two (a .to) (v .i) δ δ′ (v .b) vertex (v .db) _ (c .turn .ensures) (v .inv .1) (v .inv .2) in (
+      omega (arith, inside .loop-test .taken),
       few .0,
       few .1,
       da,
-      still-turn (a .axis) (a .offset) (a .from) (a .to) (a .n) (v .i) (v .b) vertex (v .db) _ _ _ (s .pre .0) (inside .loop-test .taken) (s .pre .2) (v .inv .2) (read .get-vertex2 .ensures) (v .inv .3) da (c .turn .ensures)
+      still-turn (a .axis) (a .offset) (a .from) (a .to) (a .n) (v .i) (v .b) vertex (v .db) _ δ δ′ (s .pre .0) (inside .loop-test .taken) (s .pre .2) (v .inv .2) (read .get-vertex2 .ensures) (v .inv .3) da (c .turn .ensures)
           ∙ v .inv .4,
     )
 

@@ -1,8 +1,7 @@
 -- `clip::join` meets its contract.
 use borrow.Author.Needs.{needs}
 use native.Mathlib.Omega.{arith}
-use Rattle.clip.specs.Arrays.{grown}
-use Rattle.clip.proofs.Rounds.{joining-one}
+use Rattle.clip.proofs.Rounds.{joining-one, joined}
 use Rattle.clip.proofs.join.Statement.{statement}
 use Rattle.clip.proofs.join.Tie as tie
 
@@ -27,11 +26,10 @@ add-t21 c =
     omega (arith, c .before .before .put-if2 .ensures .0, joining-one (a .second) (a .v))
 
 returns : tie.Need-returns
-unfolding grown
 returns c =
     let second = c .before .before in
     let first = second .before .before .before .before .before in
-    rw (← (first .put-if .ensures .0), ← (second .put-if2 .ensures .0), ← (first .put-if .ensures .1), ← (second .put-if2 .ensures .1))
+    joined _ _ _ _ _ _ _ _ _ _ (first .put-if .ensures) (second .put-if2 .ensures)
 
 pub join-spec : {M : Type 1} → statement M
 join-spec =
