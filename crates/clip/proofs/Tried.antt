@@ -8,7 +8,7 @@ use Rattle.ops.specs.Order.{lesserOf, greaterOf}
 use Rattle.grid.specs.declared.Corner.{Corner}
 use Rattle.grid.specs.declared.Grid.{Grid}
 use Rattle.clip.specs.Cut.{crossingOf, toFirst, toSecond, onward, around, cutOf}
-use Rattle.clip.specs.Slices.{together, cellOf, edgeOf, heldTo, heldFirst}
+use Rattle.clip.specs.Slices.{together, edgeOf, heldTo, heldFirst}
 use Rattle.clip.specs.Snap.{floorOf, ceilingOf, snapped}
 use Rattle.clip.specs.Work.{Event, insert, stop, andThen, frameOf, slices, cellEvents, rowEvents, meetsOf, triangleEvents}
 
@@ -33,5 +33,5 @@ pub worked : (eventsOf (corner 0x4080_0000 0x4100_0000 0x4080_0000) 4 4 (corner 
     ≡ insert 0 0 0 1 ∷ insert 1 0 0 1 ∷ insert 0 1 0 1 ∷ stop 6 ∷ [])
     × (eventsOf (corner 0x3f80_0000 0x4800_0000 0x3f80_0000) 1 1 (corner 0x3e80_0000 0x477f_ff00 0x3e80_0000 ∷ corner 0x3f40_0000 0x477f_ff00 0x3e80_0000 ∷ corner 0x3e80_0000 0x477f_ff00 0x3f40_0000 ∷ [])
     ≡ stop 7 ∷ [])
-unfolding ofBits round add sub mul div lt le ofInt toSigned floorTo ceilTo lesserOf greaterOf crossingOf toFirst toSecond onward around cutOf together cellOf edgeOf heldTo heldFirst floorOf ceilingOf snapped andThen frameOf slices cellEvents rowEvents meetsOf triangleEvents
+unfolding ofBits round add sub mul div lt le ofInt toSigned floorTo ceilTo lesserOf greaterOf crossingOf toFirst toSecond onward around cutOf together edgeOf heldTo heldFirst floorOf ceilingOf snapped andThen frameOf slices cellEvents rowEvents meetsOf triangleEvents
 worked = (refl, refl, refl)

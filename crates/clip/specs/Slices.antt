@@ -18,7 +18,7 @@ abbrev pub greatestOf : List Float → Float
 greatestOf vs = together greaterOf vs
 
 -- the number of the row or column that a coordinate lies in, counted from where the box starts
-unfoldable pub cellOf : Float → Float → Float → ℤ
+abbrev pub cellOf : Float → Float → Float → ℤ
 cellOf start inverse v = toSigned 31 (mul binary32 (sub binary32 v start) inverse)
 
 -- where a row or column ends: (start + number × size) + size
