@@ -10,7 +10,7 @@ use lib.ListN.{length}
 use lib.Ieee.{Float}
 use borrow.Author.Tests.{le-leb, lt-leb, leb-true}
 use Rattle.grid.specs.declared.Corner.{Corner}
-use Rattle.clip.specs.declared.Axis.{Axis}
+use Rattle.clip.specs.declared.cut.Axis.{Axis}
 use Rattle.clip.specs.Cut.{Cut, parts, eighth, fitting, firstOf, secondOf, cutOf}
 use Rattle.clip.specs.Arrays.{Arrays, polygonAt, written, half, Divided, countsOf, divided, divideOf}
 use Rattle.clip.proofs.Places.{Long, written-long, read-back}

@@ -10,7 +10,7 @@ use lib.ListN.{length, length-map, length-append, length-set, getD, set}
 use lib.Seq.{sets, length-sets, getD-set-same, getD-set-other}
 use lib.Ieee.{Float, nan}
 use Rattle.grid.specs.declared.Corner.{Corner}
-use Rattle.clip.specs.declared.Frame.{Frame}
+use Rattle.clip.specs.declared.frame.Frame.{Frame}
 use Rattle.clip.specs.Cut.{xOf, yOf, zOf}
 use Rattle.clip.specs.Arrays.{Arrays, numbersAt, vertexAt, polygonAt, written, Divided, countsOf, divided, grown}
 use Rattle.clip.specs.Work.{reachesOf, meetsOf}

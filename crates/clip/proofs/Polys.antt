@@ -12,11 +12,11 @@ use lib.Ieee.{Float}
 use borrow.Author.Tests.{le-leb, lt-leb}
 use Rattle.replies.specs.Said.{Said}
 use Rattle.grid.specs.declared.Corner.{Corner}
-use Rattle.clip.specs.declared.Axis.{Axis}
-use Rattle.clip.specs.declared.Poly.{Poly}
-use Rattle.clip.specs.declared.Parts.{Parts}
-use Rattle.clip.specs.declared.CutReply.{CutReply}
-use Rattle.clip.specs.declared.CutReply.the-variants.{Fine, EighthVertex}
+use Rattle.clip.specs.declared.cut.Axis.{Axis}
+use Rattle.clip.specs.declared.poly.Poly.{Poly}
+use Rattle.clip.specs.declared.poly.Parts.{Parts}
+use Rattle.clip.specs.declared.poly.CutReply.{CutReply}
+use Rattle.clip.specs.declared.poly.CutReply.the-variants.{Fine, EighthVertex}
 use Rattle.clip.specs.Cut.{Cut, parts, eighth, cutOf}
 use Rattle.clip.specs.Arrays.{Arrays, vertexAt, polygonAt, written, Divided, divideOf}
 use Rattle.clip.specs.Poly.{verticesOf, polyCut, saidOf, Answers}

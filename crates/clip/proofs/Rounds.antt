@@ -10,8 +10,8 @@ use lib.ListN.{length}
 use lib.Ieee.{Float, le, lt}
 use borrow.Author.Tests.{le-leb, lt-leb}
 use Rattle.grid.specs.declared.Corner.{Corner}
-use Rattle.clip.specs.declared.Axis.{Axis}
-use Rattle.clip.specs.declared.Counts.{Counts}
+use Rattle.clip.specs.declared.cut.Axis.{Axis}
+use Rattle.clip.specs.declared.cut.Counts.{Counts}
 use Rattle.clip.specs.Cut.{nought, distance, crossingOf, agree, joining, toFirst, toSecond, onward, lastOf, around, givesFirst, givesSecond, firstOf, secondOf}
 use Rattle.clip.specs.Arrays.{Arrays, vertexAt, polygonAt, written, half, Apart, Divided, countsOf, divided, divideOf, grown}
 use Rattle.clip.proofs.Places.{Clear, polygon-next, polygon-kept, grown-append}

@@ -13,8 +13,8 @@ use Rattle.ops.specs.Order.{lesserOf, greaterOf}
 use Rattle.clip.specs.Cut.{nought}
 use Rattle.clip.specs.Slices.{heldTo}
 use Rattle.clip.specs.Snap.{low, high, outside, floorOf, ceilingOf, snapped, snapSays, saidOf}
-use Rattle.clip.specs.declared.Snap.{Snap}
-use Rattle.clip.specs.declared.Snap.the-variants.{Outside, TooHigh, Span}
+use Rattle.clip.specs.declared.heights.Snap.{Snap}
+use Rattle.clip.specs.declared.heights.Snap.the-variants.{Outside, TooHigh, Span}
 use Rattle.clip.proofs.Holds.{held-le, held-ge}
 
 -- ---- two answers that say the same are the same: an answer can be read back from what it says

@@ -12,9 +12,9 @@ use lib.Signed.{ltZ, leZ}
 use lib.Ieee.{Float}
 use borrow.Author.Tests.{lt-ltb, le-ltb}
 use Rattle.grid.specs.declared.Corner.{Corner}
-use Rattle.clip.specs.declared.Axis.{Axis}
-use Rattle.clip.specs.declared.Axis.the-variants.{X, Z}
-use Rattle.clip.specs.declared.Frame.{Frame}
+use Rattle.clip.specs.declared.cut.Axis.{Axis}
+use Rattle.clip.specs.declared.cut.Axis.the-variants.{X, Z}
+use Rattle.clip.specs.declared.frame.Frame.{Frame}
 use Rattle.clip.specs.Cut.{yOf, Cut, parts, eighth, cutOf}
 use Rattle.clip.specs.Slices.{leastOf, greatestOf, heldFirst, heldLast}
 use Rattle.clip.specs.Snap.{maxHeight}

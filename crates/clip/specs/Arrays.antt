@@ -8,8 +8,8 @@ use lib.ListN.{length, getD}
 use lib.Seq.{sets}
 use lib.Ieee.{Float, nan}
 use Rattle.grid.specs.declared.Corner.{Corner}
-use Rattle.clip.specs.declared.Axis.{Axis}
-use Rattle.clip.specs.declared.Counts.{Counts}
+use Rattle.clip.specs.declared.cut.Axis.{Axis}
+use Rattle.clip.specs.declared.cut.Counts.{Counts}
 use Rattle.clip.specs.Cut.{xOf, yOf, zOf, firstOf, secondOf, mostVertices}
 
 pub record Arrays : Type 0 where

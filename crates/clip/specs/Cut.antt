@@ -8,8 +8,8 @@ use lib.IntN.{pos}
 use lib.Ieee.{Float, fin, binary32, le, lt, add, sub, mul, div}
 use Rattle.replies.specs.Said.{Said, just}
 use Rattle.grid.specs.declared.Corner.{Corner}
-use Rattle.clip.specs.declared.Axis.{Axis}
-use Rattle.clip.specs.declared.Axis.the-variants.{X, Z}
+use Rattle.clip.specs.declared.cut.Axis.{Axis}
+use Rattle.clip.specs.declared.cut.Axis.the-variants.{X, Z}
 
 abbrev pub nought : Float
 nought = fin false 0 (pos 0)

@@ -8,11 +8,11 @@ use lib.Seq.{sets}
 use lib.Ieee.{Float}
 use Rattle.replies.specs.Said.{Said, just}
 use Rattle.grid.specs.declared.Corner.{Corner}
-use Rattle.clip.specs.declared.Axis.{Axis}
-use Rattle.clip.specs.declared.Poly.{Poly}
-use Rattle.clip.specs.declared.CutReply.{CutReply}
-use Rattle.clip.specs.declared.CutReply.the-variants.{Fine, EighthVertex}
-use Rattle.clip.specs.declared.Parts.{Parts}
+use Rattle.clip.specs.declared.cut.Axis.{Axis}
+use Rattle.clip.specs.declared.poly.Poly.{Poly}
+use Rattle.clip.specs.declared.poly.CutReply.{CutReply}
+use Rattle.clip.specs.declared.poly.CutReply.the-variants.{Fine, EighthVertex}
+use Rattle.clip.specs.declared.poly.Parts.{Parts}
 use Rattle.clip.specs.Cut.{nought, mostVertices, Cut, parts, eighth, cutOf, cutSays}
 
 abbrev pub verticesOf : Poly → List Corner

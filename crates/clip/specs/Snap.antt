@@ -9,8 +9,8 @@ use Rattle.ops.specs.Round.{floorTo, ceilTo}
 use Rattle.ops.specs.Order.{lesserOf, greaterOf}
 use Rattle.clip.specs.Cut.{nought}
 use Rattle.clip.specs.Slices.{heldTo}
-use Rattle.clip.specs.declared.Snap.{Snap}
-use Rattle.clip.specs.declared.Snap.the-variants.{Outside, TooHigh, Span}
+use Rattle.clip.specs.declared.heights.Snap.{Snap}
+use Rattle.clip.specs.declared.heights.Snap.the-variants.{Outside, TooHigh, Span}
 
 -- the largest height
 abbrev pub maxHeight : ℕ

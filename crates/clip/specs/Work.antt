@@ -9,9 +9,9 @@ use lib.Signed.{ltZ, leZ}
 use lib.Ieee.{Float, fin, binary32, le, sub, div}
 use Rattle.grid.specs.declared.Corner.{Corner}
 use Rattle.grid.specs.declared.Grid.{Grid}
-use Rattle.clip.specs.declared.Axis.{Axis}
-use Rattle.clip.specs.declared.Axis.the-variants.{X, Z}
-use Rattle.clip.specs.declared.Frame.{Frame}
+use Rattle.clip.specs.declared.cut.Axis.{Axis}
+use Rattle.clip.specs.declared.cut.Axis.the-variants.{X, Z}
+use Rattle.clip.specs.declared.frame.Frame.{Frame}
 use Rattle.clip.specs.Cut.{xOf, yOf, zOf, along, Cut, parts, eighth, cutOf}
 use Rattle.clip.specs.Slices.{leastOf, greatestOf, cellOf, edgeOf, heldFirst, heldLast}
 use Rattle.clip.specs.Snap.{maxHeight, snapped}
