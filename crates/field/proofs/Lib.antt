@@ -18,3 +18,4 @@ pub mod Emptying
 pub mod Marking
 pub mod Surveying
 pub mod Judging
+pub mod Outcomes
