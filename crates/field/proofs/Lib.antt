@@ -19,3 +19,5 @@ pub mod Marking
 pub mod Surveying
 pub mod Judging
 pub mod Outcomes
+pub mod Standing
+pub mod AnySequence

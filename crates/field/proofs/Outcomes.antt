@@ -12,7 +12,7 @@ use Rattle.field.specs.declared.Span.{Span}
 use Rattle.field.specs.Slots.{Slots}
 use Rattle.field.specs.Field.{Field, Holds, freshField, insert}
 use Rattle.field.specs.Store.{Store, Fits, Fitting, Sound, cleared, Outcome, left, Admits, Becomes}
-use Rattle.field.specs.Calls.{Made, made, IsFresh, Freshened, Inserts, Added}
+use Rattle.field.specs.Calls.{Made, made, IsFresh, Freshened, Inserts, Offers, Added}
 use Rattle.field.proofs.Unique.{store-fixed, field-fixed}
 
 -- heads of which the first n and the others are the same
@@ -45,7 +45,7 @@ inserts-one n i new th s o o′ a b =
 -- one span
 pub added-one : (g : Grid) (x z : ℕ) (new : Span) (th : ℕ) (s : Store) → One (Added g x z new th s)
 added-one g x z new th s =
-    admits-one left g (Fitting (columns g) s) s _
+    admits-one left g (Fitting (columns g) s) s (Offers g x z new th s)
     (asks-one ((x < width g) × (z < height g)) (left (just 8) (cleared s)) _
     (asks-one (new .floor ≤ new .ceiling) (left (just 9) (cleared s)) _ (inserts-one (columns g) (x + z * width g) new th s)))
 

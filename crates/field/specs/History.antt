@@ -9,7 +9,10 @@ use Rattle.replies.specs.Said.{Said, just}
 use Rattle.grid.specs.declared.Grid.{Grid}
 use Rattle.grid.specs.Grid.{width}
 use Rattle.field.specs.declared.Span.{Span}
+use Rattle.field.specs.Spans.{Range, range}
 use Rattle.field.specs.Slots.{Slots}
+use Rattle.field.specs.Field.{Field, ranges, lengthIn}
+use Rattle.field.specs.Stretches.{In, Shares}
 use Rattle.field.specs.Store.{Store, Outcome}
 use Rattle.field.specs.Calls.{made, Freshened, Added}
 
@@ -58,3 +61,10 @@ inColumn i (p ∷ ps) = cond (eqb (p .column) i) (p .span ∷ inColumn i ps) (in
 abbrev pub acceptedIn : Grid → ℕ → List Step → List Span
 acceptedIn g i [] = []
 acceptedIn g i (c ∷ cs) = inColumn i (placedBy g (c .call) (c .said)) ++ acceptedIn g i cs
+
+-- ---- no room
+
+-- a span shares no height with column `i` of the field, and the spans of all its columns together fill `n` slots
+pub record Full (f : Field) (i : ℕ) (new : Span) (n : ℕ) : Type 0 where
+  pub apart : (r : Range) → In r (ranges f i) → Shares (range new) r → ⊥
+  pub fill : lengthIn (f .columns) ≡ n
