@@ -14,6 +14,7 @@ pub mod Stretching
 pub mod Order
 pub mod Passing
 pub mod Merging
+pub mod Landing
 pub mod Emptying
 pub mod Marking
 pub mod Surveying
