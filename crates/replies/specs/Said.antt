@@ -1,4 +1,4 @@
--- What a reply says, and how a call's tests follow one another (docs/RULES.md, "Replies").
+-- What a reply says, and how a call's tests follow one another (docs/RULES.md, "Numbered replies").
 use mathlib.Core.Path.{_≡_}
 use mathlib.Core.Logic.{_⊎_}
 use mathlib.Core.List.{List, [], _∷_}
