@@ -41,13 +41,13 @@ module _ {g : Grid} {A : ℕ → List Span} {s : Store} (S : Standing g A s) (x 
 
   -- past the tests of place and order the span is inserted or refused for want of a slot
   inserts : Does g (addSpan x z new th) s o → Inserts (columns g) column new th s o
-  inserts d = inside (admitted S left (Fitting (columns g) s) (Offers g x z new th s) o (S .fits) d)
+  inserts d = inside (admitted S left (Fitting (columns g) s) (Offers (width g) (height g) x z new th s) o (S .fits) d)
     where
       ordered : Asks (new .floor ≤ new .ceiling) (left (just 9) (cleared s)) (Inserts (columns g) column new th s) o → Inserts (columns g) column new th s o
       ordered (inl a) = absurd (a .0 order)
       ordered (inr a) = a .1
 
-      inside : Offers g x z new th s o → Inserts (columns g) column new th s o
+      inside : Offers (width g) (height g) x z new th s o → Inserts (columns g) column new th s o
       inside (inl a) = absurd (a .0 (xw, zh))
       inside (inr a) = ordered (a .1)
 

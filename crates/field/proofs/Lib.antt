@@ -22,3 +22,5 @@ pub mod Judging
 pub mod Outcomes
 pub mod Standing
 pub mod AnySequence
+pub mod Admitting
+pub mod Offering

@@ -45,7 +45,7 @@ inserts-one n i new th s o o′ a b =
 -- one span
 pub added-one : (g : Grid) (x z : ℕ) (new : Span) (th : ℕ) (s : Store) → One (Added g x z new th s)
 added-one g x z new th s =
-    admits-one left g (Fitting (columns g) s) s (Offers g x z new th s)
+    admits-one left g (Fitting (columns g) s) s (Offers (width g) (height g) x z new th s)
     (asks-one ((x < width g) × (z < height g)) (left (just 8) (cleared s)) _
     (asks-one (new .floor ≤ new .ceiling) (left (just 9) (cleared s)) _ (inserts-one (columns g) (x + z * width g) new th s)))
 

@@ -182,7 +182,7 @@ module _ {g : Grid} {A : ℕ → List Span} {s : Store} (S : Standing g A s) (x 
   ordered xw zh (inl a) = refused (just 9) refl (a .1)
   ordered xw zh (inr a) = inserts xw zh (a .0) (a .1 .0) (field-fixed (a .1 .1) (S .holds)) (a .1 .2)
 
-  inside : Offers g x z new th s o → Standing g (after g (addSpan x z new th) (o .said) A) (o .store)
+  inside : Offers (width g) (height g) x z new th s o → Standing g (after g (addSpan x z new th) (o .said) A) (o .store)
   inside (inl a) = refused (just 8) refl (a .1)
   inside (inr a) = ordered (a .0 .0) (a .0 .1) (a .1)
 
@@ -202,7 +202,7 @@ admitted {g = g} {s = s} S ends Fitted next o fitted (inr a) = slices (a .1)
 -- ---- any call, and any calls
 
 does-stands : {g : Grid} {A : ℕ → List Span} {s : Store} → Standing g A s → (call : Call) (o : Outcome) → Does g call s o → Standing g (after g call (o .said) A) (o .store)
-does-stands {g} {A} {s} S (addSpan x z new th) o d = inside S x z new th o (admitted S left (Fitting (columns g) s) (Offers g x z new th s) o (S .fits) d)
+does-stands {g} {A} {s} S (addSpan x z new th) o d = inside S x z new th o (admitted S left (Fitting (columns g) s) (Offers (width g) (height g) x z new th s) o (S .fits) d)
 
 pub history-stands : (g : Grid) (s : Store) → Begins g s → {steps : List Step} {t : Store} → History g s steps t → Standing g (λ i. acceptedIn g i steps) t
 history-stands g s b start = begins-stands g s b
