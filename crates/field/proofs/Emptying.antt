@@ -1,7 +1,6 @@
 -- A fresh field: slices filled with one value, and the chain of all slots.
 use mathlib.Core.Path.{_≡_, refl, sym, ap, _∙_}
-use mathlib.Core.Logic.{_≢_}
-use mathlib.Core.List.{List, [], _∷_, _++_, append-nil}
+use mathlib.Core.List.{List, [], _++_, append-nil}
 use Prim.Native.Nat.{ℕ, zero, suc, _+_, _-_, _<_, _≤_}
 use native.Mathlib.Omega.{arith}
 use native.Mathlib.Decide.{ℕ-discrete}
@@ -10,8 +9,8 @@ use borrow.Author.Tests.{eq-eqb, ne-eqb}
 use lib.ListN.{length, getD, set, take, drop, replicate, length-set, length-replicate, getD-replicate}
 use lib.Seq.{getD-set-same, getD-set-other, drop-length, length-take-le, take-at, drop-at}
 use Rattle.replies.specs.Said.{just}
-use Rattle.field.specs.Slots.{none, Slots, slots, Run, same, times, timesIn}
-use Rattle.field.specs.Field.{Field, Holds, countFrom, freshField, ranges}
+use Rattle.field.specs.Slots.{none, Slots, slots, Run, times, timesIn}
+use Rattle.field.specs.Field.{Holds, countFrom, freshField, ranges}
 use Rattle.field.specs.Store.{Fits}
 use Rattle.field.specs.Calls.{made, IsFresh}
 use Rattle.field.specs.Inner.{after}

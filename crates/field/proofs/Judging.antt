@@ -1,15 +1,14 @@
 -- The test for soundness: what the marks and their number say of the store.
 use mathlib.Core.Path.{_≡_, refl, sym, ap, _∙_}
 use mathlib.Core.Logic.{_≢_, _↔_}
-use mathlib.Core.List.{List, [], _∷_, map}
-use Prim.Native.Nat.{ℕ, _+_, _<_, _≤_}
+use mathlib.Core.List.{List, []}
+use Prim.Native.Nat.{ℕ, _<_, _≤_}
 use native.Mathlib.Omega.{arith}
 use lib.ListN.{length, getD}
 use lib.Seq.{ext-getD}
-use Rattle.field.specs.Spans.{Ascends}
-use Rattle.field.specs.Slots.{none, Slots, slots, Run, same, times, timesIn, rangeAt}
-use Rattle.field.specs.Field.{Field, columnAt, ranges, Holds, Held}
-use Rattle.field.specs.Marks.{Flags, unmarked, Free, Marked, Broken, Climbs, Any, Columns, MarkedAll, BrokenAll}
+use Rattle.field.specs.Slots.{none, slots, times, timesIn}
+use Rattle.field.specs.Field.{Held}
+use Rattle.field.specs.Marks.{Flags, Marked, Broken, Any, Columns, MarkedAll, BrokenAll}
 use Rattle.field.proofs.Chains.{run-unique}
 use Rattle.field.proofs.Holding.{at-most}
 use Rattle.field.proofs.Marking.{unmarked-none, none-unmarked}

@@ -24,3 +24,4 @@ pub mod Standing
 pub mod AnySequence
 pub mod Admitting
 pub mod Offering
+pub mod Tried

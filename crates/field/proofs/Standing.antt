@@ -1,16 +1,15 @@
 -- What stands after any calls from a fresh field on: a sound field, each column of which covers the spans accepted there.
 use mathlib.Core.Path.{_≡_, refl, sym, ap, subst, _∙_}
-use mathlib.Core.Logic.{_≢_, _⊎_, inl, inr, ⊎-elim}
+use mathlib.Core.Logic.{_≢_, inl, inr, ⊎-elim}
 use mathlib.Core.Bool.{true}
 use mathlib.Core.List.{List, [], _∷_, _++_, map}
-use Prim.Native.Nat.{ℕ, suc, _+_, _*_, _<_, _≤_}
+use Prim.Native.Nat.{ℕ, _+_, _*_, _<_, _≤_}
 use native.Mathlib.Omega.{arith}
 use native.Mathlib.Nat.{mul-le-mul-right, suc-mul, mul-comm}
 use native.Mathlib.Decide.{ℕ-discrete}
 use borrow.Author.Tests.{eq-eqb, ne-eqb}
-use lib.ListN.{length, take, replicate, length-replicate, length-take}
+use lib.ListN.{length, take, length-replicate, length-take}
 use lib.Seq.{length-take-le}
-use lib.Dec.{eqb}
 use Rattle.replies.specs.Said.{Said, just, Asks}
 use Rattle.grid.specs.declared.Grid.{Grid}
 use Rattle.grid.specs.Grid.{width, height, columns, gridSays}
@@ -19,12 +18,12 @@ use Rattle.field.specs.Spans.{range, insertColumn}
 use Rattle.field.specs.Slots.{Contents, Slots}
 use Rattle.field.specs.Field.{Field, columnAt, spans, ranges, Holds, freshField, Inserted, insert}
 use Rattle.field.specs.Store.{Store, Fits, Fitting, Sound, cleared, Outcome, left, Admits, Becomes}
-use Rattle.field.specs.Calls.{Made, made, IsFresh, Freshened, Inserts, Offers, Added}
+use Rattle.field.specs.Calls.{Made, made, IsFresh, Freshened, Inserts, Offers}
 use Rattle.field.specs.History.{Call, addSpan, Does, Step, History, start, then, Begins, Placed, placedBy, inColumn, acceptedIn}
 use Rattle.field.proofs.Basics.{by-dec, true-false}
 use Rattle.field.proofs.Contents.{ranges-spans}
 use Rattle.field.proofs.Walking.{insertRange, column-ranges}
-use Rattle.field.proofs.Accepting.{Kept, Accepts, Refuses, insert-cases}
+use Rattle.field.proofs.Accepting.{Kept, Accepts, insert-cases}
 use Rattle.field.proofs.Stretching.{Covers, covers-insert}
 use Rattle.field.proofs.Emptying.{fresh-covers}
 use Rattle.field.proofs.Unique.{store-fixed, field-fixed}

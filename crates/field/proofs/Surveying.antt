@@ -1,12 +1,12 @@
 -- The loop that marks the columns one after another.
-use mathlib.Core.Path.{_≡_, refl, sym, ap, _∙_}
+use mathlib.Core.Path.{_≡_, refl, ap, _∙_}
 use mathlib.Core.List.{List, [], _∷_, _++_}
 use Prim.Native.Nat.{ℕ, zero, suc, _+_, _<_, _≤_}
 use native.Mathlib.Omega.{arith}
 use native.Mathlib.Decide.{decLt, ℕ-discrete}
 use lib.ListN.{length, getD, length-append, replicate, getD-replicate, length-replicate, List·getD-append, List·getD-eq-default}
 use lib.Seq.{getD-append-seam}
-use Rattle.field.specs.Slots.{none, Run, times, timesIn}
+use Rattle.field.specs.Slots.{none, times, timesIn}
 use Rattle.field.specs.Marks.{Flags, unmarked, Free, Marked, Broken, Climbs, Columns, MarkedAll, BrokenAll}
 use Rattle.field.proofs.Basics.{by-dec}
 use Rattle.field.proofs.Counting.{timesIn-append}

@@ -1,5 +1,5 @@
 -- What an answer says: the number and the values of the rules for each.
-use mathlib.Core.List.{List, [], _∷_}
+use mathlib.Core.List.{[], _∷_}
 use Rattle.replies.specs.Said.{Said, real, say, just}
 use Rattle.rerecast.specs.declared.Reply.{Reply}
 use Rattle.rerecast.specs.declared.Reply.the-variants.{Accepted, BadNumber, BoxOrder, GridSize, Slices, Unsound, OffGrid, Inverted, NoSlot}

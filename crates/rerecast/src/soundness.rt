@@ -6,7 +6,7 @@ use field::NONE;
 ghost use mathlib.Core.Path.{_≡_};
 ghost use mathlib.Core.List.{List};
 ghost use Prim.Native.Nat.{ℕ, _+_, _≤_};
-ghost use lib.ListN.{length, getD, replicate};
+ghost use lib.ListN.{length, replicate};
 ghost use Rattle.field.specs.Slots.{slots};
 ghost use Rattle.field.specs.Field.{Held};
 ghost use Rattle.field.specs.Inner.{Says};

@@ -1,15 +1,14 @@
 -- `admit_store` meets its contract: its tests are those of the slices, then that of the field.
 use Prim.Native.Nat.{ℕ, _*_}
-use mathlib.Core.Path.{_≡_, refl, sym, ap, _∙_}
+use mathlib.Core.Path.{refl, sym, ap}
 use mathlib.Core.Logic.{inl, inr}
 use mathlib.Core.List.{List}
 use native.Mathlib.Omega.{arith}
 use borrow.Author.Needs.{needs}
-use lib.ListN.{length, take}
 use lib.Seq.{length-take-le}
 use Rattle.replies.specs.Said.{just}
 use Rattle.field.specs.Slots.{slots}
-use Rattle.field.specs.Store.{Fit, store, left}
+use Rattle.field.specs.Store.{store, left}
 use Rattle.field.proofs.Basics.{says-true, says-false}
 use Rattle.rerecast.specs.Inner.{Fitted}
 use Rattle.rerecast.proofs.admission.admit_store.Statement.{statement}

@@ -1,5 +1,4 @@
 -- `link` meets its contract: the test for no slot decides which of the two lists is stored to.
-use mathlib.Core.Path.{refl}
 use borrow.Author.Needs.{needs}
 use borrow.Author.Tests.{eq-eqb, ne-eqb}
 use Rattle.field.specs.Slots.{none}

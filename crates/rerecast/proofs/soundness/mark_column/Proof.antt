@@ -1,13 +1,11 @@
 -- `mark_column` meets its contract. The loop's invariant: what is left of the chain is one of unmarked slots whose spans ascend exactly if the whole is.
 -- The measure is how many slots are not marked.
-use Prim.Native.Nat.{suc, _≤_}
-use mathlib.Core.Path.{_≡_, ap}
-use mathlib.Core.List.{List, _∷_}
+use mathlib.Core.Path.{_≡_}
 use native.Mathlib.Omega.{arith}
 use borrow.Author.Needs.{needs}
-use lib.ListN.{length, getD}
+use lib.ListN.{length}
 use Rattle.field.specs.Marks.{unmarked, Climbs}
-use Rattle.field.proofs.Marking.{Marking, marking-start, marking-step, marking-less, marking-room, marking-out, marking-twice, marking-low, marking-thin, marking-climb, marking-end}
+use Rattle.field.proofs.Marking.{Marking, marking-start, marking-less, marking-room, marking-out, marking-twice, marking-low, marking-thin, marking-climb, marking-end}
 use Rattle.rerecast.proofs.soundness.mark_column.Statement.{statement}
 use Rattle.rerecast.proofs.soundness.mark_column.Tie as tie
 

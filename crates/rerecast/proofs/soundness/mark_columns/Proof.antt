@@ -1,7 +1,6 @@
 -- `mark_columns` meets its contract. The loop's invariant: the first columns are marked.
 use Prim.Native.Nat.{_-_}
 use mathlib.Core.Path.{_≡_, refl, _∙_}
-use native.Mathlib.Omega.{arith}
 use borrow.Author.Needs.{needs}
 use lib.ListN.{length, getD}
 use Rattle.field.specs.Marks.{Climbs}

@@ -1,7 +1,5 @@
 -- `mark_free` meets its contract. The loop's invariant: what is left of the chain is one of unmarked slots exactly if the whole is. The measure is how many
 -- slots are not marked.
-use Prim.Native.Nat.{_≤_}
-use mathlib.Core.List.{List, _∷_}
 use native.Mathlib.Omega.{arith}
 use borrow.Author.Needs.{needs}
 use Rattle.field.specs.Marks.{unmarked, Any}

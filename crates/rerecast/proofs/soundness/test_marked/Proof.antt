@@ -1,10 +1,8 @@
 -- `test_marked` meets its contract: a broken chain rules a sound field out, and else the number of marked slots decides.
-use mathlib.Core.Path.{sym, ap, _∙_}
-use native.Mathlib.Omega.{arith}
+use mathlib.Core.Path.{ap, _∙_}
 use borrow.Author.Needs.{needs}
-use borrow.Author.Tests.{eqb-true, eq-eqb, eqb-false}
+use borrow.Author.Tests.{eqb-true, eqb-false}
 use lib.ListN.{length, length-replicate}
-use lib.Dec.{eqb}
 use Rattle.field.specs.Marks.{Any}
 use Rattle.field.proofs.Basics.{says-if}
 use Rattle.field.proofs.Judging.{judged-columns, columns-flags, judged-spare, judged}
