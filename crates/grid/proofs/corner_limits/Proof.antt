@@ -1,11 +1,11 @@
--- `grid::of_corner` meets its contract.
+-- `grid::corner_limits` meets its contract.
 use borrow.Author.Needs.{needs}
 use mathlib.Core.Path.{_≡_}
 use mathlib.Core.Bool.{true}
 use Rattle.grid.specs.Grid.{coordinateOk, firstOutside}
 use Rattle.grid.proofs.Tests.{passed, failed}
-use Rattle.grid.proofs.of_corner.Statement.{statement}
-use Rattle.grid.proofs.of_corner.Tie as tie
+use Rattle.grid.proofs.corner_limits.Statement.{statement}
+use Rattle.grid.proofs.corner_limits.Tie as tie
 
 x-inside : (c : tie.Else1) → coordinateOk (c .before .before .args .p .x) ≡ true
 x-inside c = passed (c .before .coordinate .ensures) (c .if1 .left)
@@ -42,8 +42,8 @@ returns-4 c next =
     let y = c .before .before in
     rw (x-inside (y .before .before), y-inside y, passed (c .before .coordinate3 .ensures) (c .if3 .left))
 
-pub of-corner-spec : {M : Type 1} → statement M
-of-corner-spec =
+pub corner-limits-spec : {M : Type 1} → statement M
+corner-limits-spec =
     tie.close
     (tie.spec
     coordinate-requires

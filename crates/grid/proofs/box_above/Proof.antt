@@ -1,7 +1,7 @@
--- `grid::above` meets its contract.
+-- `grid::box_above` meets its contract.
 use Rattle.grid.specs.Grid.{boxAbove}
-use Rattle.grid.proofs.above.Statement.{statement}
-use Rattle.grid.proofs.above.Tie as tie
+use Rattle.grid.proofs.box_above.Statement.{statement}
+use Rattle.grid.proofs.box_above.Tie as tie
 
 returns : tie.Need-returns
 unfolding boxAbove
@@ -15,5 +15,5 @@ returns-3 : tie.Need-returns-3
 unfolding boxAbove
 returns-3 c = rw (c .before .before .before .if1 .left, c .before .if2 .left)
 
-pub above-spec : {M : Type 1} → statement M
-above-spec = tie.close (tie.spec returns returns-2 returns-3)
+pub box-above-spec : {M : Type 1} → statement M
+box-above-spec = tie.close (tie.spec returns returns-2 returns-3)
