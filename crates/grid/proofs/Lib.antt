@@ -1,0 +1,5 @@
+pub mod Tests
+pub mod Cells
+pub mod Outside
+pub mod Answers
+pub mod Accepted
