@@ -20,6 +20,10 @@ by-dec (no a) f g = g a
 pub true-false : true ≡ false → ⊥
 true-false e = let z : _≡_ {A = ℕ} 0 1 = cc in omega arith
 
+pub not-true-false : (b : Bool) → (b ≡ true → ⊥) → b ≡ false
+not-true-false true h = absurd (h refl)
+not-true-false false h = refl
+
 -- two numbers that cannot differ are equal
 pub only : (a b : ℕ) → ((a ≢ b) → ⊥) → a ≡ b
 only a b k =

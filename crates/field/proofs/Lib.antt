@@ -14,7 +14,11 @@ pub mod Stretching
 pub mod Order
 pub mod Passing
 pub mod Merging
+pub mod Landing
 pub mod Emptying
 pub mod Marking
 pub mod Surveying
 pub mod Judging
+pub mod Outcomes
+pub mod Standing
+pub mod AnySequence

@@ -2,5 +2,8 @@ pub mod Spans
 pub mod Slots
 pub mod Field
 pub mod Stretches
+pub mod Store
+pub mod Calls
+pub mod History
 pub mod Inner
 pub mod Marks

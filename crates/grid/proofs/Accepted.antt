@@ -1,21 +1,20 @@
 -- What a caller knows of a grid that was accepted or refused.
 use mathlib.Core.Path.{_≡_, refl, sym, ap, _∙_}
-use mathlib.Core.Bool.{Bool, true, false, cond, _&&_, _||_}
+use mathlib.Core.Bool.{Bool, true, false, cond}
 use mathlib.Core.List.{List, [], _∷_}
 use Prim.Native.Nat.{ℕ, suc, _≤_, _<_}
 use native.Mathlib.Omega.{arith}
-use lib.Dec.{ltb, leb}
-use lib.Ieee.{Float, lt, toSigned}
-use borrow.Author.Tests.{ltb-true, leb-true}
+use lib.Ieee.{Float, lt}
 use Rattle.replies.specs.Said.{Said, Value, whole, real, say, just}
-use Rattle.grid.specs.Grid.{coordinateOk, cellOk, width, height, columns, sized, boxAbove, sizeSays, firstOutside, Tested, corner, numbers, gridSays}
+use Rattle.grid.specs.Grid.{coordinateOk, cellOk, width, height, columns, sized, boxAbove, sizeSays, firstOutside, Tested, numbers, gridSays}
 use Rattle.grid.specs.Answer.{saidOf}
 use Rattle.grid.specs.declared.Corner.{Corner}
 use Rattle.grid.specs.declared.Grid.{Grid}
 use Rattle.grid.specs.declared.GridReply.{GridReply}
 use Rattle.grid.specs.declared.GridReply.the-variants.{Fine, BadNumber, BoxOrder, GridSize}
-use Rattle.grid.proofs.Cells.{orNone-le}
-use Rattle.grid.proofs.Tests.{both, none-of}
+use Rattle.grid.proofs.Answers.{said-once}
+use Rattle.grid.proofs.Cells.{width-le, height-le, size-facts}
+use Rattle.ops.proofs.Tests.{none-of}
 
 -- a corner inside its limits
 pub record Within (p : Corner) : Type 0 where
@@ -25,6 +24,7 @@ pub record Within (p : Corner) : Type 0 where
 
 -- an accepted grid
 pub record Accepted (g : Grid) : Type 0 where
+  pub taken : gridSays g .number ≡ 0
   pub wide : 0 < width g
   pub wide-le : width g ≤ 4096
   pub high : 0 < height g
@@ -74,14 +74,14 @@ accepted g e =
     let cell = max .1 .1 .1 in
     let box = none-of (lt (g .max .x) (g .min .x)) _ ordered in
     let box2 = none-of (lt (g .max .y) (g .min .y)) _ (box .1) in
-    let one = both (ltb 0 (width g)) _ fit in
-    let two = both (ltb 0 (height g)) _ (one .1) in
+    let counts = size-facts (width g) (height g) fit in
     record {
-      wide = ltb-true 0 (width g) (one .0);
-      wide-le = orNone-le _;
-      high = ltb-true 0 (height g) (two .0);
-      high-le = orNone-le _;
-      columns-le = leb-true (columns g) 1048576 (two .1);
+      taken = e;
+      wide = counts .0;
+      wide-le = width-le g;
+      high = counts .1 .0;
+      high-le = height-le g;
+      columns-le = counts .1 .1;
       said = numbered .1 ∙ rw (ordered, fit);
       least = record { x-ok = min .0; y-ok = min .1 .0; z-ok = min .1 .1 .0 };
       greatest = record { x-ok = max .0; y-ok = max .1 .0; z-ok = max .1 .1 .0 };
@@ -97,12 +97,16 @@ accepted g e =
 module _ (g : Grid) (r : GridReply) (says : saidOf r ≡ gridSays g) where
   pub fine : (w h : ℕ) → r ≡ Fine w h → Accepted g × ((w ≡ width g) × (h ≡ height g))
   fine w h e =
-      let zero : gridSays g .number ≡ 0 = ap (λ (s : Said). s .number) (sym says ∙ ap saidOf e) in
-      let a = accepted g zero in
-      let same : (whole w ∷ whole h ∷ []) ≡ (whole (width g) ∷ whole (height g) ∷ []) = ap (λ (s : Said). s .values) (sym (ap saidOf e) ∙ says ∙ a .said) in
+      let fact : gridSays g ≡ saidOf (Fine w h) = sym says ∙ ap saidOf e in
+      let a = accepted g (ap (λ (s : Said). s .number) fact) in
+      let same : (whole w ∷ whole h ∷ []) ≡ (whole (width g) ∷ whole (height g) ∷ []) = ap (λ (s : Said). s .values) (sym fact ∙ a .said) in
       (a, (cc, cc))
 
-  -- any other answer is a refusal, with the number and the values that it says
+  -- an accepted grid has no other answer
+  pub answered : Accepted g → r ≡ Fine (width g) (height g)
+  answered a = said-once r (Fine (width g) (height g)) (says ∙ a .said)
+
+  -- every other answer is a refusal, with what it says
   pub bad-number : (x : Float) → r ≡ BadNumber x → gridSays g ≡ say 1 (real x ∷ [])
   bad-number x e = sym says ∙ ap saidOf e
 

@@ -1,19 +1,17 @@
--- Of a whole number held to 1 to 4,096, and of the reply that a grid's width and height give.
-use mathlib.Core.Path.{_≡_, refl, sym, ap, _∙_}
+-- Of a whole number that counts from 1 to 4,096, of a grid's width and height, and of their product.
+use mathlib.Core.Path.{_≡_, refl}
 use mathlib.Core.Bool.{Bool, true, false, cond, _&&_, true≢false}
-use mathlib.Core.List.{[], _∷_}
 use Prim.Native.Nat.{ℕ, _*_, _^_, _≤_, _<_}
 use native.Mathlib.Omega.{arith}
 use native.Mathlib.Nat.{mul-le-mul}
 use lib.Dec.{T, ltb, leb}
 use lib.IntN.{ℤ, pos, negsuc, natAbs}
-use lib.Signed.{ltZ, leZ, nonNeg}
-use borrow.Author.Tests.{ltb-true, ltb-false, leb-true, le-leb, lt-leb, lt-ltb}
-use Rattle.replies.specs.Said.{whole, real, say}
-use Rattle.grid.specs.Grid.{orNone, sized, sizeSays, width, height, columns, widthFloat, heightFloat}
+use lib.Signed.{ltZ, nonNeg}
+use borrow.Author.Tests.{ltb-true, ltb-false, leb-true, le-leb, lt-leb}
+use lib.Ieee.{toSigned}
+use Rattle.grid.specs.Grid.{orNone, sizeOk, width, height, widthFloat, heightFloat}
+use Rattle.ops.proofs.Tests.{both}
 use Rattle.grid.specs.declared.Grid.{Grid}
-
--- ---- held to 1 to 4,096
 
 pub none-low : (n : ℤ) → ltZ n (pos 1) ≡ true → 0 ≡ orNone n
 unfolding orNone
@@ -53,34 +51,22 @@ orNone-le (pos n) = go (leb 1 n) (leb n 4096) refl
     go false b h = omega arith
 orNone-le (negsuc n) = omega arith
 
--- the product of two such numbers fits
+pub width-le : (g : Grid) → width g ≤ 4096
+unfolding width
+width-le g = orNone-le (toSigned 31 (widthFloat g))
+
+pub height-le : (g : Grid) → height g ≤ 4096
+unfolding height
+height-le g = orNone-le (toSigned 31 (heightFloat g))
+
+-- ---- the product of two such numbers
+
 pub product-fits : (a b : ℕ) → a ≤ 4096 → b ≤ 4096 → a * b < 2 ^ 32
 product-fits a b h k = omega (arith, mul-le-mul h k)
 
--- ---- the reply
-
-module _ (g : Grid) where
-  pub no-width : width g ≡ 0 → say 3 (real (widthFloat g) ∷ real (heightFloat g) ∷ []) ≡ sizeSays g
-  unfolding sizeSays
-  no-width e = rw e
-
-  pub no-height : height g ≡ 0 → say 3 (real (widthFloat g) ∷ real (heightFloat g) ∷ []) ≡ sizeSays g
-  unfolding sizeSays
-  no-height e = go (ltb 0 (width g))
-    where
-      go : (b : Bool) → say 3 (real (widthFloat g) ∷ real (heightFloat g) ∷ []) ≡ cond (b && (ltb 0 (height g) && leb (columns g) 1048576)) (say 0 (whole (width g) ∷ whole (height g) ∷ [])) (say 3 (real (widthFloat g) ∷ real (heightFloat g) ∷ []))
-      go true = rw e
-      go false = refl
-
-  pub too-many : 1048576 < columns g → say 3 (real (widthFloat g) ∷ real (heightFloat g) ∷ []) ≡ sizeSays g
-  unfolding sizeSays
-  too-many l = rw (lt-leb (columns g) 1048576 l) (go (ltb 0 (width g)) (ltb 0 (height g)))
-    where
-      go : (a b : Bool) → say 3 (real (widthFloat g) ∷ real (heightFloat g) ∷ []) ≡ cond (a && (b && false)) (say 0 (whole (width g) ∷ whole (height g) ∷ [])) (say 3 (real (widthFloat g) ∷ real (heightFloat g) ∷ []))
-      go true true = refl
-      go true false = refl
-      go false b = refl
-
-  pub fits : 0 < width g → 0 < height g → columns g ≤ 1048576 → say 0 (whole (width g) ∷ whole (height g) ∷ []) ≡ sizeSays g
-  unfolding sizeSays
-  fits a b l = rw (lt-ltb 0 (width g) a, lt-ltb 0 (height g) b, le-leb (columns g) 1048576 l)
+pub size-facts : (w h : ℕ) → sizeOk w h ≡ true → (0 < w) × ((0 < h) × (w * h ≤ 1048576))
+unfolding sizeOk
+size-facts w h e =
+    let one = both (ltb 0 w) _ e in
+    let two = both (ltb 0 h) _ (one .1) in
+    (ltb-true 0 w (one .0), (ltb-true 0 h (two .0), leb-true (w * h) 1048576 (two .1)))

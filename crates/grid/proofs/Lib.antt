@@ -3,3 +3,5 @@ pub mod Cells
 pub mod Outside
 pub mod Answers
 pub mod Accepted
+pub mod Finite
+pub mod Tried

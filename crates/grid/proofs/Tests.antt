@@ -1,6 +1,6 @@
--- What a test of the code says of the definition that it decides, and what two tests together say of each.
-use mathlib.Core.Path.{_≡_, refl, sym, _∙_, ap}
-use mathlib.Core.Bool.{Bool, true, false, not, _&&_, _||_, true≢false}
+-- What a test of the code says of the definition that it decides.
+use mathlib.Core.Path.{_≡_, sym, _∙_, ap}
+use mathlib.Core.Bool.{Bool, true, false, not, _&&_}
 use borrow.Author.Tests.{not-true, not-false}
 
 -- a callee's answer, negated and tested
@@ -16,11 +16,3 @@ second a b h = sym (ap (λ (t : Bool). t && b) h)
 
 pub neither : (a b : Bool) → a ≡ false → false ≡ a && b
 neither a b h = sym (ap (λ (t : Bool). t && b) h)
-
-pub both : (a b : Bool) → a && b ≡ true → (a ≡ true) × (b ≡ true)
-both true b h = (refl, h)
-both false b h = absurd (true≢false (sym h))
-
-pub none-of : (a b : Bool) → a || b ≡ false → (a ≡ false) × (b ≡ false)
-none-of true b h = absurd (true≢false h)
-none-of false b h = (refl, h)

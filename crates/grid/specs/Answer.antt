@@ -5,8 +5,8 @@ use Rattle.replies.specs.Said.{Said, whole, real, say, just}
 use Rattle.grid.specs.Grid.{Tested, firstOutside}
 use Rattle.grid.specs.declared.GridReply.{GridReply}
 use Rattle.grid.specs.declared.GridReply.the-variants.{Fine, BadNumber, BoxOrder, GridSize}
-use Rattle.grid.specs.declared.Found.{Found}
-use Rattle.grid.specs.declared.Found.the-variants.{Inside, Outside}
+use Rattle.grid.specs.declared.Limits.{Limits}
+use Rattle.grid.specs.declared.Limits.the-variants.{Inside, Outside}
 
 abbrev pub saidOf : GridReply → Said
 saidOf (Fine w h) = say 0 (whole w ∷ whole h ∷ [])
@@ -15,10 +15,10 @@ saidOf BoxOrder = just 2
 saidOf (GridSize w h) = say 3 (real w ∷ real h ∷ [])
 
 -- reply 1 where a number outside was found, and what comes next where none was
-abbrev pub unless : Found → Said → Said
+abbrev pub unless : Limits → Said → Said
 unless Inside next = next
 unless (Outside x) next = say 1 (real x ∷ [])
 
 -- r is what a test of these numbers finds
-abbrev pub Finds : Found → List Tested → Type 0
+abbrev pub Finds : Limits → List Tested → Type 0
 Finds r ts = (next : Said) → unless r next ≡ firstOutside ts next

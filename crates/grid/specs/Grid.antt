@@ -6,7 +6,7 @@ use lib.Dec.{leb, ltb}
 use lib.IntN.{ℤ, pos, negsuc, natAbs}
 use lib.Signed.{leZ}
 use lib.Ieee.{Float, fin, binary32, le, lt, sub, div, add, toSigned}
-use Rattle.replies.specs.Said.{Said, Value, whole, real, say, just}
+use Rattle.replies.specs.Said.{Said, whole, real, say, just}
 use Rattle.grid.specs.declared.Corner.{Corner}
 use Rattle.grid.specs.declared.Grid.{Grid}
 
@@ -44,18 +44,21 @@ orNone n = cond (leZ (pos 1) n && leZ n (pos 4096)) (natAbs n) 0
 abbrev pub cells : Float → ℕ
 cells x = orNone (toSigned 31 x)
 
-abbrev pub width : Grid → ℕ
+unfoldable pub width : Grid → ℕ
 width g = cells (widthFloat g)
 
-abbrev pub height : Grid → ℕ
+unfoldable pub height : Grid → ℕ
 height g = cells (heightFloat g)
 
 abbrev pub columns : Grid → ℕ
 columns g = width g * height g
 
 -- both are inside their limits, and so is the product
+unfoldable pub sizeOk : ℕ → ℕ → Bool
+sizeOk w h = ltb 0 w && (ltb 0 h && leb (w * h) 1048576)
+
 abbrev pub sized : Grid → Bool
-sized g = ltb 0 (width g) && (ltb 0 (height g) && leb (columns g) 1048576)
+sized g = sizeOk (width g) (height g)
 
 -- ---- the tests
 

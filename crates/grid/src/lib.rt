@@ -1,6 +1,7 @@
-// The grid's parameters, the tests that every call with a grid makes of them, and the grid's size in cells.
+// The grid's parameters, the tests that every call with a grid makes of them first, and the grid's size in cells.
 ghost use mathlib.Core.Path.{_≡_};
-ghost use Rattle.grid.specs.Grid.{coordinateOk, cellOk, across, cells, corner, numbers, boxAbove, sizeSays, gridSays};
+ghost use Prim.Native.Nat.{_≤_};
+ghost use Rattle.grid.specs.Grid.{coordinateOk, cellOk, across, cells, corner, numbers, boxAbove, sizeOk, sizeSays, gridSays};
 ghost use Rattle.grid.specs.Answer.{saidOf, Finds};
 
 pub struct Corner {
@@ -21,15 +22,16 @@ pub enum GridReply {
     Fine(u32, u32),
     // 1: the number outside its limits
     BadNumber(f32),
-    // 2
+    // 2: the box's corners the wrong way round
     BoxOrder,
-    // 3: width and height before truncation
+    // 3: the width and the height, not yet truncated
     GridSize(f32, f32),
 }
 
-// What a test of several numbers finds: the first that is outside its limits, if there is one.
-enum Found {
+// What a test of several numbers finds.
+enum Limits {
     Inside,
+    // the first that is outside
     Outside(f32),
 }
 
@@ -51,41 +53,41 @@ pub fn cell(x: f32) -> bool
     false
 }
 
-fn of_corner(p: Corner) -> Found
+fn corner_limits(p: Corner) -> Limits
     ensures { λ r. ⌜ Finds r (corner p) ⌝ }
 {
     if !coordinate(p.x) {
-        return Found::Outside(p.x);
+        return Limits::Outside(p.x);
     }
     if !coordinate(p.y) {
-        return Found::Outside(p.y);
+        return Limits::Outside(p.y);
     }
     if !coordinate(p.z) {
-        return Found::Outside(p.z);
+        return Limits::Outside(p.z);
     }
-    Found::Inside
+    Limits::Inside
 }
 
-fn of_numbers(g: Grid) -> Found
+fn grid_limits(g: Grid) -> Limits
     ensures { λ r. ⌜ Finds r (numbers g) ⌝ }
 {
-    if let Found::Outside(x) = of_corner(g.min) {
-        return Found::Outside(x);
+    if let Limits::Outside(x) = corner_limits(g.min) {
+        return Limits::Outside(x);
     }
-    if let Found::Outside(x) = of_corner(g.max) {
-        return Found::Outside(x);
+    if let Limits::Outside(x) = corner_limits(g.max) {
+        return Limits::Outside(x);
     }
     if !cell(g.cell_size) {
-        return Found::Outside(g.cell_size);
+        return Limits::Outside(g.cell_size);
     }
     if !cell(g.cell_height) {
-        return Found::Outside(g.cell_height);
+        return Limits::Outside(g.cell_height);
     }
-    Found::Inside
+    Limits::Inside
 }
 
 // Is the least corner above the greatest on some axis?
-fn above(g: Grid) -> bool
+fn box_above(g: Grid) -> bool
     ensures { λ r. ⌜ r ≡ boxAbove g ⌝ }
 {
     if g.min.x > g.max.x {
@@ -97,18 +99,18 @@ fn above(g: Grid) -> bool
     g.min.z > g.max.z
 }
 
-// A side's length in cells, before truncation.
-fn side(low: f32, high: f32, step: f32) -> f32
+// A side in cells, not yet truncated.
+fn side_length(low: f32, high: f32, step: f32) -> f32
     ensures { λ r. ⌜ r ≡ across low high step ⌝ }
 {
     (high - low) / step + 0.5
 }
 
-// The truncated length where it is from 1 to 4,096, and 0 where it is not.
-fn count(length: f32) -> u32
-    ensures { λ r. ⌜ r ≡ cells length ⌝ }
+// A side truncated, or 0 where that is outside the limits.
+fn cell_count(side: f32) -> u32
+    ensures { λ r. ⌜ r ≡ cells side ⌝ }
 {
-    let n = ops::truncate(length);
+    let n = ops::truncate(side);
     if n < 1 {
         return 0;
     }
@@ -118,33 +120,41 @@ fn count(length: f32) -> u32
     n as u32
 }
 
+// Are both sides inside their limits, and is their product?
+fn size_ok(wide: u32, high: u32) -> bool
+    requires { ⌜ (wide ≤ 4096) × (high ≤ 4096) ⌝ }
+    ensures { λ r. ⌜ r ≡ sizeOk wide high ⌝ }
+{
+    if wide == 0 {
+        return false;
+    }
+    if high == 0 {
+        return false;
+    }
+    wide * high <= 1048576
+}
+
 fn size(g: Grid) -> GridReply
     ensures { λ r. ⌜ saidOf r ≡ sizeSays g ⌝ }
 {
-    let w = side(g.min.x, g.max.x, g.cell_size);
-    let h = side(g.min.z, g.max.z, g.cell_size);
-    let a = count(w);
-    let b = count(h);
-    if a == 0 {
-        return GridReply::GridSize(w, h);
+    let w = side_length(g.min.x, g.max.x, g.cell_size);
+    let h = side_length(g.min.z, g.max.z, g.cell_size);
+    let wide = cell_count(w);
+    let high = cell_count(h);
+    if size_ok(wide, high) {
+        return GridReply::Fine(wide, high);
     }
-    if b == 0 {
-        return GridReply::GridSize(w, h);
-    }
-    if a * b > 1048576 {
-        return GridReply::GridSize(w, h);
-    }
-    GridReply::Fine(a, b)
+    GridReply::GridSize(w, h)
 }
 
-// The tests that come before all others, wherever a grid is given.
+// The tests that stand before all others in every call that takes a grid.
 pub fn check(g: Grid) -> GridReply
     ensures { λ r. ⌜ saidOf r ≡ gridSays g ⌝ }
 {
-    if let Found::Outside(x) = of_numbers(g) {
+    if let Limits::Outside(x) = grid_limits(g) {
         return GridReply::BadNumber(x);
     }
-    if above(g) {
+    if box_above(g) {
         return GridReply::BoxOrder;
     }
     size(g)
