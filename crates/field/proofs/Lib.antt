@@ -22,3 +22,9 @@ pub mod Judging
 pub mod Outcomes
 pub mod Standing
 pub mod AnySequence
+pub mod Beside
+pub mod Assigning
+pub mod Sweeping
+pub mod Upward
+pub mod LedgeSays
+pub mod Filtering
