@@ -47,3 +47,9 @@ assign-read ar (s ∷ ss) (v ∷ vs) d w l =
 pub ruled-length : (rule : List Span → Span → List Span → ℕ) (below ss : List Span) → length (ruled rule below ss) ≡ length ss
 ruled-length rule below [] = refl
 ruled-length rule below (s ∷ ss) = ap suc (ruled-length rule (s ∷ below) ss)
+
+-- rules that agree give the same areas
+pub ruled-agree : (g g′ : List Span → Span → List Span → ℕ) → ((below : List Span) (s : Span) (above : List Span) → g below s above ≡ g′ below s above) → (below ss : List Span) → ruled g below ss ≡ ruled g′ below ss
+ruled-agree g g′ agree below [] = refl
+ruled-agree g g′ agree below (s ∷ ss) =
+    ap₂ (λ (a : ℕ) (l : List ℕ). a ∷ l) (agree below s ss) (ruled-agree g g′ agree (s ∷ below) ss)

@@ -16,7 +16,7 @@ use Rattle.field.specs.Inner.{Says}
 use Rattle.field.specs.Beside.{beside}
 use Rattle.field.specs.Ledges.{stand, Ledge}
 use Rattle.field.specs.LedgeTest.{ledge}
-use Rattle.field.specs.Filters.{Rule, ruled, assign, assignAll, filtered, ledges}
+use Rattle.field.specs.Filters.{Rule, ruled, assign, assignAll, filtered, firm, ledges}
 use Rattle.field.proofs.Basics.{by-dec}
 use Rattle.field.proofs.Counting.{timesIn-zero}
 use Rattle.field.proofs.Chains.{run-past}
@@ -97,7 +97,7 @@ ledges-span {f = f} H w h height climb i l lower s upper e =
     let at = spanAt (f .contents) in
     let st = stand height climb (at s) (map at upper) in
     let b = ledge st (spans f) (beside w h i) in
-    let k = filtered-span H (λ i below s above. cond (ledge (stand height climb s above) (spans f) (beside w h i)) 0 (s .area)) i l lower s upper e in
+    let k = filtered-span H (λ i below s above. firm height climb (spans f) (beside w h i) s above) i l lower s upper e in
     (λ y. k ∙ chosen b (ledge-says st (spans f) (beside w h i)) .0 y, λ n. k ∙ chosen b (ledge-says st (spans f) (beside w h i)) .1 n)
   where
     chosen : {P : Type 0} {a : ℕ} (b : Bool) → Says b P → (P → cond b 0 a ≡ 0) × ((P → ⊥) → cond b 0 a ≡ a)

@@ -28,3 +28,8 @@ pub mod Sweeping
 pub mod Upward
 pub mod LedgeSays
 pub mod Filtering
+pub mod Looking
+pub mod Raising
+pub mod LookingUp
+pub mod Cursors
+pub mod Ledging

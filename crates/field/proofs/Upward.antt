@@ -1,24 +1,23 @@
 -- A walk up a column that gives each span an area by a rule.
 use mathlib.Core.Path.{_≡_, refl, _∙_}
 use mathlib.Core.Logic.{_≢_}
-use mathlib.Core.Bool.{cond}
 use mathlib.Core.List.{List, [], _∷_, map}
 use Prim.Native.Nat.{ℕ, _<_, _≤_}
 use native.Mathlib.Omega.{arith}
 use borrow.Author.Tests.{eq-eqb, ne-eqb}
 use lib.ListN.{length, getD, set, length-set}
-use lib.Dec.{eqb}
 use Rattle.field.specs.declared.Span.{Span}
 use Rattle.field.specs.Slots.{none, Contents, contents, spanAt}
 use Rattle.field.specs.Inner.{Chain, Distinct, slotsFrom}
-use Rattle.field.specs.Walkable.{openTop, roof}
+use Rattle.field.specs.Walkable.{roof}
+use Rattle.field.specs.FilterCode.{roofAt}
 use Rattle.field.specs.Filters.{ruled, assign}
 use Rattle.field.proofs.Counting.{distinct-head, distinct-tail}
 use Rattle.field.proofs.Chains.{chain-cons, chain-nil, chain-unique, chain-slot, chain-less}
 use Rattle.field.proofs.Assigning.{spans-set}
 
 -- the floor of the slot that a chain starts with, or the open top
-pub roof-of : (k : Contents) {nx : List ℕ} {h : ℕ} (ss : List ℕ) → Chain nx h ss → roof (map (spanAt k) ss) ≡ cond (eqb h none) openTop (getD (k .floors) h 0)
+pub roof-of : (k : Contents) {nx : List ℕ} {h : ℕ} (ss : List ℕ) → Chain nx h ss → roof (map (spanAt k) ss) ≡ roofAt (k .floors) h
 roof-of k {nx} {h} [] c = rw (eq-eqb h none (c .run))
 roof-of k {nx} {h} (s ∷ ss) c = rw (c .run .0, ne-eqb s none (λ e. omega (arith, c .run .1, c .few)))
 
@@ -33,7 +32,7 @@ pub record Upward (rule : List Span → Span → List Span → ℕ) (fl ce nx : 
   pub size : length ar ≡ length ar₀
   pub onward : assign ar left (ruled rule below (map (spanAt (contents fl ce ar)) left)) ≡ assign ar₀ ss (ruled rule [] (map (spanAt (contents fl ce ar₀)) ss))
 
-pub upward-start : (rule : List Span → Span → List Span → ℕ) (fl ce nx : List ℕ) (head : ℕ) (ar ss : List ℕ) → Chain nx head ss → Distinct ss → Upward rule fl ce nx head ar ar head
+unfoldable pub upward-start : (rule : List Span → Span → List Span → ℕ) (fl ce nx : List ℕ) (head : ℕ) (ar ss : List ℕ) → Chain nx head ss → Distinct ss → Upward rule fl ce nx head ar ar head
 upward-start rule fl ce nx head ar ss c d =
     record { ss = ss; left = ss; below = []; whole = c; here = c; distinct = d; size = refl; onward = refl }
 
@@ -50,7 +49,7 @@ module _ {rule : List Span → Span → List Span → ℕ} {fl ce nx : List ℕ}
   upward-less n = let k = chain-cons (p .left) (p .here) n in chain-less (p .left) (k .0) (p .here) (k .1) (k .2)
 
   -- the span there is given its area
-  pub upward-step : at ≢ none → {v : ℕ} → ((tl : List ℕ) → Chain nx (getD nx at 0) tl → v ≡ rule (p .below) (spanAt (contents fl ce ar) at) (map (spanAt (contents fl ce ar)) tl)) → Upward rule fl ce nx head ar₀ (set ar at v) (getD nx at 0)
+  unfoldable pub upward-step : at ≢ none → {v : ℕ} → ((tl : List ℕ) → Chain nx (getD nx at 0) tl → v ≡ rule (p .below) (spanAt (contents fl ce ar) at) (map (spanAt (contents fl ce ar)) tl)) → Upward rule fl ce nx head ar₀ (set ar at v) (getD nx at 0)
   upward-step n {v} e =
       let k = chain-cons (p .left) (p .here) n in
       let d : Distinct (at ∷ k .0) = rw (k .1) at (p .distinct) in

@@ -60,16 +60,21 @@ lowObstacles climb f = filtered (λ i below s above. raised climb below s) f
 
 -- ---- ledges
 
--- A walkable span's area becomes 0 at a ledge; `ledge` is true exactly there (`Ledge`). An unwalkable one's is 0 as it is.
+-- A walkable span's area becomes 0 at a ledge; an unwalkable one's is 0 as it is. The test `ledge` is true exactly where `Ledge` holds.
+abbrev pub firm : ℕ → ℕ → (ℕ → List Span) → List ℕ → Span → List Span → ℕ
+firm height climb at ks s above = cond (ledge (stand height climb s above) at ks) 0 (s .area)
+
 abbrev pub ledges : ℕ → ℕ → ℕ → ℕ → Field → Field
-ledges w h height climb f =
-    filtered (λ i below s above. cond (ledge (stand height climb s above) (spans f) (beside w h i)) 0 (s .area)) f
+ledges w h height climb f = filtered (λ i below s above. firm height climb (spans f) (beside w h i) s above) f
 
 -- ---- low ceilings
 
 -- The area becomes 0 if the floor above is less than the walkable height over the ceiling.
+abbrev pub roomed : ℕ → Span → List Span → ℕ
+roomed height s above = cond (ltb (roof above) (s .ceiling + height)) 0 (s .area)
+
 abbrev pub lowCeilings : ℕ → Field → Field
-lowCeilings height f = filtered (λ i below s above. cond (ltb (roof above) (s .ceiling + height)) 0 (s .area)) f
+lowCeilings height f = filtered (λ i below s above. roomed height s above) f
 
 -- ---- the call of a filter
 

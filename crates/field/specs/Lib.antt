@@ -12,3 +12,4 @@ pub mod Beside
 pub mod Ledges
 pub mod LedgeTest
 pub mod Filters
+pub mod FilterCode
