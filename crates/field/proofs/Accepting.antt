@@ -1,22 +1,21 @@
 -- What an insertion answers: it is refused where no slot is free once the merged ones are given back, and else accepted.
-use mathlib.Core.Path.{_≡_, refl, sym, ap, subst, _∙_}
+use mathlib.Core.Path.{_≡_, refl, sym, ap, _∙_}
 use mathlib.Core.Logic.{_≢_, _⊎_, inl, inr}
 use mathlib.Core.Bool.{true, false}
 use mathlib.Core.List.{List, [], _∷_, _++_, map, foldl}
 use Prim.Native.Nat.{ℕ, suc, _+_, _<_, _≤_}
 use native.Mathlib.Omega.{arith}
 use native.Mathlib.Decide.{ℕ-discrete}
-use lib.ListN.{length, getD}
+use lib.ListN.{length}
 use Rattle.field.specs.declared.Span.{Span}
 use Rattle.field.specs.Spans.{range, Ascends, insertColumn}
-use Rattle.field.specs.Slots.{none, spanAt, rangeAt, put, Slots}
+use Rattle.field.specs.Slots.{none, spanAt, rangeAt, Slots}
 use Rattle.field.specs.Field.{Field, columnAt, spans, ranges, lengthIn, Holds, release, Inserted, settle, insert}
 use Rattle.field.specs.Inner.{firstOr, lastOr, giveBack, linkHeads}
 use Rattle.field.proofs.Basics.{by-dec, no-length}
 use Rattle.field.proofs.Chains.{run-nil, run-cons}
 use Rattle.field.proofs.Contents.{ranges-spans}
 use Rattle.field.proofs.Walking.{walk-column, column-ranges, insert-ascends}
-use Rattle.field.proofs.Giving.{Given}
 use Rattle.field.proofs.Holding.{slot-total}
 use Rattle.field.proofs.Linking.{link-heads-length}
 use Rattle.field.proofs.Inserting.{placed, field₃, spans-here, spans-other, column-here, column-other, holds-placed, placed-size, walkOf, walk-split, walk-given}

@@ -1,7 +1,7 @@
 -- Any sequence of calls from a fresh field on, each answered as its contract says, accepted or refused with any number. Three theorems: what a column
 -- lists, when a span is refused, and that the order of the accepted spans does not count.
 use mathlib.Core.Path.{_≡_, refl, sym, ap, _∙_}
-use mathlib.Core.Logic.{_≢_, _⊎_, inl, inr, ⊎-elim, _↔_}
+use mathlib.Core.Logic.{_≢_, inl, inr, _↔_}
 use mathlib.Core.Bool.{true, false}
 use mathlib.Core.List.{List, [], _∷_, map}
 use Prim.Native.Nat.{ℕ, _+_, _*_, _<_, _≤_}
@@ -12,7 +12,7 @@ use Rattle.grid.specs.declared.Grid.{Grid}
 use Rattle.grid.specs.Grid.{width, height, columns}
 use Rattle.field.specs.declared.Span.{Span}
 use Rattle.field.specs.Spans.{Range, range}
-use Rattle.field.specs.Field.{Field, ranges, lengthIn, Holds, insert}
+use Rattle.field.specs.Field.{Field, ranges, Holds, insert}
 use Rattle.field.specs.Stretches.{In, Lists}
 use Rattle.field.specs.Store.{Store, Fitting, cleared, Outcome, left, Becomes}
 use Rattle.field.specs.Calls.{Inserts, Offers}
@@ -41,13 +41,13 @@ module _ {g : Grid} {A : ℕ → List Span} {s : Store} (S : Standing g A s) (x 
 
   -- past the tests of place and order the span is inserted or refused for want of a slot
   inserts : Does g (addSpan x z new th) s o → Inserts (columns g) column new th s o
-  inserts d = inside (admitted S left (Fitting (columns g) s) (Offers g x z new th s) o (S .fits) d)
+  inserts d = inside (admitted S left (Fitting (columns g) s) (Offers (width g) (height g) x z new th s) o (S .fits) d)
     where
       ordered : Asks (new .floor ≤ new .ceiling) (left (just 9) (cleared s)) (Inserts (columns g) column new th s) o → Inserts (columns g) column new th s o
       ordered (inl a) = absurd (a .0 order)
       ordered (inr a) = a .1
 
-      inside : Offers g x z new th s o → Inserts (columns g) column new th s o
+      inside : Offers (width g) (height g) x z new th s o → Inserts (columns g) column new th s o
       inside (inl a) = absurd (a .0 (xw, zh))
       inside (inr a) = ordered (a .1)
 

@@ -1,21 +1,22 @@
 -- A fresh field: slices filled with one value, and the chain of all slots.
 use mathlib.Core.Path.{_≡_, refl, sym, ap, _∙_}
-use mathlib.Core.Logic.{_≢_}
-use mathlib.Core.List.{List, [], _∷_, _++_, append-nil, map}
+use mathlib.Core.List.{List, [], _++_, append-nil}
 use Prim.Native.Nat.{ℕ, zero, suc, _+_, _-_, _<_, _≤_}
 use native.Mathlib.Omega.{arith}
 use native.Mathlib.Decide.{ℕ-discrete}
 use borrow.Author.Fill.{fill-more}
 use borrow.Author.Tests.{eq-eqb, ne-eqb}
-use lib.ListN.{length, getD, set, drop, replicate, length-set, length-replicate, getD-replicate, length-map}
-use lib.Seq.{getD-set-same, getD-set-other, drop-length}
-use Rattle.field.specs.Slots.{none, slots, Run, same, times, timesIn}
-use Rattle.field.specs.Field.{Field, Holds, countFrom, freshField, ranges}
+use lib.ListN.{length, getD, set, take, drop, replicate, length-set, length-replicate, getD-replicate}
+use lib.Seq.{getD-set-same, getD-set-other, drop-length, length-take-le, take-at, drop-at}
+use Rattle.replies.specs.Said.{just}
+use Rattle.field.specs.Slots.{none, Slots, slots, Run, times, timesIn}
+use Rattle.field.specs.Field.{Holds, countFrom, freshField, ranges}
+use Rattle.field.specs.Store.{Fits}
+use Rattle.field.specs.Calls.{made, IsFresh}
 use Rattle.field.specs.Inner.{after}
 use Rattle.field.proofs.Basics.{by-dec}
 use Rattle.field.proofs.Counting.{same-other, same-eq}
 use Rattle.field.proofs.Stretching.{Covers, covers-none}
-use Rattle.field.proofs.Accepting.{Kept}
 
 -- ---- a slice filled with one value
 
@@ -121,10 +122,20 @@ fresh-holds w N nx step p few =
       ascends = λ i l. rw (empty i l .1) tt;
     }
 
--- as the code makes it
-pub fresh-made : (w N nf nc na : ℕ) {heads fl ce ar nx : List ℕ} → heads ≡ replicate w none → fl ≡ replicate nf 0 → nf ≡ N → ce ≡ replicate nc 0 → nc ≡ N → ar ≡ replicate na 0 → na ≡ N → Numbered N nx → (0 < N) × (N ≤ 1048576) → Holds heads (slots 0 fl ce ar nx) (freshField w N)
-fresh-made w N nf nc na {nx = nx} eh ef f ec c ea a step small =
-    rw (eh, ef, ec, ea, f, c, a) (fresh-holds w N nx step (small .0) (omega arith))
+-- as the code makes it: the first `k` heads are lent on, and each list is filled by itself
+pub fresh-made : (n : ℕ) (heads : List ℕ) (t : Slots) (k : ℕ) → k ≡ n → Fits n heads t → {part fl ce ar nx : List ℕ} → part ≡ replicate (length (take k heads)) none → fl ≡ replicate (length (t .contents .floors)) 0 → ce ≡ replicate (length (t .contents .ceilings)) 0 → ar ≡ replicate (length (t .contents .areas)) 0 → Numbered (length (t .nexts)) nx → IsFresh n heads t (made (just 0) (part ++ drop k heads) (slots 0 fl ce ar nx))
+fresh-made n heads t k e F {part} {fl} {ce} {ar} {nx} eh ef ec ea step =
+    let N = length (t .nexts) in
+    let first : length (take k heads) ≡ n = length-take-le k heads (omega (arith, F .enough)) ∙ e in
+    let long : length part ≡ n = ap length eh ∙ length-replicate (length (take k heads)) none ∙ first in
+    let H : Holds (replicate n none) (slots 0 fl ce ar nx) (freshField n N) =
+    rw (ef, ec, ea, F .floors-fit, F .ceilings-fit, F .areas-fit) (fresh-holds n N nx step (F .some) (omega (arith, F .few)))
+    in
+    record {
+      says = refl;
+      holds = rw (take-at part (drop k heads) n long, eh, first) H;
+      beyond = drop-at part (drop k heads) n long ∙ rw e;
+    }
 
 -- no column has anything before the first offer
 pub fresh-covers : (w N j : ℕ) → j < w → Covers [] (ranges (freshField w N) j)

@@ -1,15 +1,15 @@
 -- Slots given back one after another, on the lent lists and on the field.
-use mathlib.Core.Path.{_≡_, refl, sym, ap, _∙_}
+use mathlib.Core.Path.{_≡_, refl, ap, _∙_}
 use mathlib.Core.Logic.{_≢_}
-use mathlib.Core.List.{List, [], _∷_, _++_, foldl}
-use Prim.Native.Nat.{ℕ, zero, suc, _+_, _<_, _≤_}
+use mathlib.Core.List.{List, [], _∷_, foldl}
+use Prim.Native.Nat.{ℕ, _+_, _<_, _≤_}
 use native.Mathlib.Omega.{arith}
-use lib.ListN.{length, getD, set, length-set}
+use lib.ListN.{length, getD, length-set}
 use lib.Seq.{getD-set-other}
 use Rattle.field.specs.Slots.{none, Contents, spanAt, put, zeros, Slots, Sized, Run, times}
 use Rattle.field.specs.Field.{Field, release}
 use Rattle.field.specs.Inner.{giveBack}
-use Rattle.field.proofs.Counting.{same-refl, same-other, same-eq, times-first}
+use Rattle.field.proofs.Counting.{same-refl, same-eq, times-first}
 use Rattle.field.proofs.Chains.{run-front}
 use Rattle.field.proofs.Contents.{put-other, long-put, sized-long, long-sized}
 

@@ -1,11 +1,11 @@
 -- A store that holds a field: no slot twice, the chains of its columns, and how many slots there are.
-use mathlib.Core.Path.{_≡_, refl, sym, ap, _∙_}
+use mathlib.Core.Path.{_≡_}
 use mathlib.Core.List.{List, [], _∷_}
 use Prim.Native.Nat.{ℕ, suc, _+_, _<_, _≤_}
 use native.Mathlib.Omega.{arith}
 use native.Mathlib.Decide.{decLt}
 use lib.ListN.{length, getD}
-use Rattle.field.specs.Slots.{none, Slots, Run, times, timesIn}
+use Rattle.field.specs.Slots.{none, Slots, times, timesIn}
 use Rattle.field.specs.Field.{Field, columnAt, lengthIn, Holds}
 use Rattle.field.specs.Inner.{Chain, Distinct}
 use Rattle.field.proofs.Basics.{by-dec}

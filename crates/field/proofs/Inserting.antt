@@ -1,7 +1,6 @@
 -- An insertion keeps that the store holds the field, and its column becomes what the rule says.
-use mathlib.Core.Path.{_≡_, refl, sym, ap, subst, _∙_}
+use mathlib.Core.Path.{_≡_, sym, ap, _∙_}
 use mathlib.Core.Logic.{_≢_}
-use mathlib.Core.Bool.{true, false}
 use mathlib.Core.List.{List, [], _∷_, _++_, map, foldl, map-append}
 use Prim.Native.Nat.{ℕ, _+_, _<_, _≤_}
 use native.Mathlib.Omega.{arith}
@@ -9,17 +8,17 @@ use native.Mathlib.Decide.{ℕ-discrete}
 use lib.ListN.{length, getD, set, length-set}
 use lib.Seq.{getD-set-same, getD-set-other}
 use Rattle.field.specs.declared.Span.{Span}
-use Rattle.field.specs.Spans.{Range, range, Ascends, Walk, walkUp, insertColumn}
-use Rattle.field.specs.Slots.{none, Contents, spanAt, rangeAt, put, Slots, Sized, Run, same, times, timesIn}
-use Rattle.field.specs.Field.{Field, columnAt, spans, ranges, Holds, release, Inserted, settle, insert}
+use Rattle.field.specs.Spans.{range, Ascends, Walk, walkUp}
+use Rattle.field.specs.Slots.{none, Contents, spanAt, rangeAt, put, Slots, Run, same, times, timesIn}
+use Rattle.field.specs.Field.{Field, columnAt, Holds, release}
 use Rattle.field.specs.Inner.{firstOr, lastOr, giveBack, fill, linkHeads, linkNexts}
-use Rattle.field.proofs.Basics.{by-dec, no-length}
+use Rattle.field.proofs.Basics.{by-dec}
 use Rattle.field.proofs.Counting.{same-eq, times-append, timesIn-one, timesIn-two, timesIn-set}
-use Rattle.field.proofs.Chains.{run-in, run-nil, run-cons, run-split, run-agree, away-last}
+use Rattle.field.proofs.Chains.{run-in, run-split, run-agree, away-last}
 use Rattle.field.proofs.Contents.{Long, long-put, sized-long, long-sized, put-same, put-other, map-agree, ranges-spans}
-use Rattle.field.proofs.Walking.{walk-column, walk-parted, below-from, insert-ascends}
+use Rattle.field.proofs.Walking.{walk-parted, below-from}
 use Rattle.field.proofs.Giving.{Given, given}
-use Rattle.field.proofs.Holding.{at-most, column-distinct, contents-long}
+use Rattle.field.proofs.Holding.{at-most}
 use Rattle.field.proofs.Linking.{link-other, link-length, link-heads-other, link-heads-length, run-column}
 
 -- the slots once the front of the free chain has the span, and is linked between `before` and `next`

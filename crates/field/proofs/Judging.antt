@@ -1,30 +1,17 @@
 -- The test for soundness: what the marks and their number say of the store.
 use mathlib.Core.Path.{_≡_, refl, sym, ap, _∙_}
 use mathlib.Core.Logic.{_≢_, _↔_}
-use mathlib.Core.List.{List, [], _∷_, map}
-use Prim.Native.Nat.{ℕ, zero, suc, _+_, _<_, _≤_}
+use mathlib.Core.List.{List, []}
+use Prim.Native.Nat.{ℕ, _<_, _≤_}
 use native.Mathlib.Omega.{arith}
-use native.Mathlib.Decide.{decLt}
-use lib.ListN.{length, getD, replicate, getD-replicate, length-replicate, List·getD-eq-default}
+use lib.ListN.{length, getD}
 use lib.Seq.{ext-getD}
-use Rattle.field.specs.Spans.{Ascends}
-use Rattle.field.specs.Slots.{none, Slots, slots, Run, same, times, timesIn, rangeAt}
-use Rattle.field.specs.Field.{Field, columnAt, ranges, Holds, Held}
-use Rattle.field.specs.Marks.{Flags, unmarked, Free, Marked, Broken, Climbs, Any, Columns, MarkedAll, BrokenAll}
-use Rattle.field.proofs.Basics.{by-dec}
+use Rattle.field.specs.Slots.{none, slots, times, timesIn}
+use Rattle.field.specs.Field.{Held}
+use Rattle.field.specs.Marks.{Flags, Marked, Broken, Any, Columns, MarkedAll, BrokenAll}
 use Rattle.field.proofs.Chains.{run-unique}
 use Rattle.field.proofs.Holding.{at-most}
 use Rattle.field.proofs.Marking.{unmarked-none, none-unmarked}
-
--- ---- marks that are all 0
-
-pub replicate-zero : (n x : ℕ) → getD {A = ℕ} (replicate n 0) x 0 ≡ 0
-replicate-zero n x =
-    by-dec (decLt x n) (λ l. getD-replicate n x 0 0 l) (λ k. List·getD-eq-default {A = ℕ} (replicate n 0) 0 {n = x} (omega (arith, length-replicate {A = ℕ} n 0)))
-
-pub unmarked-zero : (n : ℕ) → unmarked (replicate n 0) ≡ n
-unmarked-zero zero = refl
-unmarked-zero (suc n) = omega (arith, unmarked-zero n)
 
 -- ---- columns
 

@@ -1,25 +1,24 @@
 -- The insertion as code makes it, in four steps: the pass, the merges, the slot taken, the link. What each step promises, put together, is the rule's.
 -- Only the first heads are at hand: those of others follow them.
-use mathlib.Core.Path.{_≡_, refl, sym, ap, subst, _∙_}
+use mathlib.Core.Path.{_≡_, refl, sym, ap, _∙_}
 use mathlib.Core.Logic.{_≢_}
 use mathlib.Core.Bool.{true, false}
 use mathlib.Core.List.{List, [], _∷_, _++_, foldl, append-nil}
-use Prim.Native.Nat.{ℕ, _+_, _<_, _≤_}
+use Prim.Native.Nat.{ℕ, _<_, _≤_}
 use native.Mathlib.Omega.{arith}
 use lib.ListN.{length, getD, length-set, length-append, List·getD-append}
 use Rattle.field.specs.declared.Span.{Span}
-use Rattle.field.specs.Spans.{Ascends, Walk, walkUp}
+use Rattle.field.specs.Spans.{Walk, walkUp}
 use Rattle.field.specs.Slots.{none, Contents, spanAt, Slots, Sized, Run, times}
 use Rattle.field.specs.Field.{Field, columnAt, Holds, Inserted, insert}
 use Rattle.field.specs.Inner.{Chain, Distinct, firstOr, lastOr, below, from, Over, giveBack, Absorbs, fill, linkHeads, linkNexts}
 use Rattle.field.proofs.Counting.{times-append}
 use Rattle.field.proofs.Chains.{run-split, run-last, chain-of}
-use Rattle.field.proofs.Walking.{below-from, from-over, walk-from, lifted, Reached, walk-reached}
+use Rattle.field.proofs.Walking.{below-from, from-over, walk-from, lifted, walk-reached}
 use Rattle.field.proofs.Holding.{column-chain, column-distinct}
-use Rattle.field.proofs.Giving.{Given}
 use Rattle.field.proofs.Linking.{link-heads-append}
 use Rattle.field.proofs.Inserting.{placed, walkOf, walk-given}
-use Rattle.field.proofs.Accepting.{slotsGiven, Refuses, refused, front, result, accepted-is, holds-result}
+use Rattle.field.proofs.Accepting.{slotsGiven, refused, front, result, accepted-is, holds-result}
 use Rattle.field.proofs.Passing.{Stops}
 
 last-slot : (nx : List ℕ) (h : ℕ) (low : List ℕ) (e : ℕ) → Run nx h low e → lastOr none low ≢ none → lastOr none low < length nx

@@ -33,3 +33,6 @@ pub mod Raising
 pub mod LookingUp
 pub mod Cursors
 pub mod Ledging
+pub mod Admitting
+pub mod Offering
+pub mod Tried

@@ -122,3 +122,20 @@ module _ {nx mk₀ : List ℕ} {head : ℕ} {Fair₀ : List ℕ → Type 0} {mk 
   marking-end g e =
       let k = p .back [] (record { run = e; once = λ x. omega (arith, p .flags x) }) g in
       record { ss = k .0; run = k .1; fair = k .2; adds = λ x. omega (arith, k .3 x); flags = p .flags; count = p .count }
+
+-- ---- a column, whose spans have to ascend: the tests and the turn as the code has them, with the slot's index `i`, its floor and its ceiling
+
+module _ (fl ce : List ℕ) {nx mk₀ : List ℕ} {head : ℕ} {Fair₀ : List ℕ → Type 0} {mk : List ℕ} {at n low : ℕ} (p : Marking nx mk₀ head Fair₀ mk at n (Climbs fl ce low)) (there : at ≢ none) {i : ℕ} (ei : i ≡ at) {floor : ℕ} (ef : floor ≡ getD fl i 0) where
+  pub marking-low : floor < low → Broken nx mk₀ head Fair₀
+  marking-low l = marking-unfair p there (λ ss a. omega (arith, a .0, rw ei at ef))
+
+  module _ {ceiling : ℕ} (ec : ceiling ≡ getD ce i 0) where
+    pub marking-thin : ceiling < floor → Broken nx mk₀ head Fair₀
+    marking-thin l = marking-unfair p there (λ ss a. omega (arith, a .1, rw ei at ef, rw ei at ec))
+
+    pub marking-climb : at < length nx → getD mk at 0 ≡ 0 → low ≤ floor → floor ≤ ceiling → Marking nx mk₀ head Fair₀ (set mk i 1) (getD nx i 0) (n + 1) (Climbs fl ce (ceiling + 1))
+    marking-climb l z up thick =
+        let f : floor ≡ getD fl at 0 = rw ei at ef in
+        let c : ceiling ≡ getD ce at 0 = rw ei at ec in
+        let e : ceiling + 1 ≡ suc (getD ce at 0) = omega arith in
+        rw (ei, e) (marking-step p (Climbs fl ce (suc (getD ce at 0))) there l z (λ ss a. a .2) (λ ss a. (omega arith, omega arith, a)))

@@ -2,14 +2,14 @@
 use mathlib.Core.Path.{_≡_, refl, sym, ap, _∙_}
 use mathlib.Core.Logic.{_≢_}
 use mathlib.Core.List.{List, [], _∷_, foldl}
-use Prim.Native.Nat.{ℕ, suc, _+_, _-_, _<_, _≤_, min, max}
+use Prim.Native.Nat.{ℕ, _+_, _-_, _<_, _≤_, min, max}
 use native.Mathlib.Omega.{arith}
 use borrow.Author.Tests.{le-ltb, lt-ltb, le-leb, lt-leb}
 use lib.ListN.{length, getD, set, length-set}
 use lib.Seq.{getD-set-other}
 use Rattle.field.specs.declared.Span.{Span}
 use Rattle.field.specs.Spans.{joined, Walk, merges, stops, walkUp}
-use Rattle.field.specs.Slots.{none, spanAt, zeros, Slots, Sized, times}
+use Rattle.field.specs.Slots.{none, spanAt, zeros, Slots, Sized}
 use Rattle.field.specs.Inner.{Chain, Distinct, firstOr, slotsFrom, Over, giveBack, Absorbs}
 use Rattle.field.proofs.Counting.{times-apart, times-first, distinct-head, distinct-tail}
 use Rattle.field.proofs.Chains.{run-set, chain-unique, chain-cons, chain-nil, chain-less}

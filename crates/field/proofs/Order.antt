@@ -1,13 +1,13 @@
 -- A column that covers what was accepted lists exactly its stretches, and these are fixed by which spans were accepted: their order does not count.
 use mathlib.Core.Path.{_≡_, refl, sym, ap, ap₂, _∙_}
-use mathlib.Core.Logic.{_⊎_, inl, inr, ⊎-elim, _↔_}
+use mathlib.Core.Logic.{inl, inr, ⊎-elim, _↔_}
 use mathlib.Core.List.{List, [], _∷_}
-use Prim.Native.Nat.{ℕ, suc, _<_, _≤_}
+use Prim.Native.Nat.{ℕ, suc}
 use native.Mathlib.Omega.{arith}
 use Rattle.field.specs.Spans.{Range, Ascends}
 use Rattle.field.specs.Stretches.{In, Shares, Linked, Within, Stretch, Lists}
 use Rattle.field.proofs.Walking.{asc-in}
-use Rattle.field.proofs.Stretching.{Has, Solid, Covers, linked-trans, linked-sym}
+use Rattle.field.proofs.Stretching.{Covers}
 
 -- two of an ascending column that share a height are one
 asc-same : (b : ℕ) (L : List Range) (j k : Range) → Ascends b L → In j L → In k L → Shares j k → j ≡ k

@@ -1,10 +1,10 @@
 -- The loop that passes the spans below a floor: what is left of the column ends as the whole would.
-use mathlib.Core.Path.{_≡_, refl, sym, ap, _∙_}
+use mathlib.Core.Path.{_≡_, refl, ap, _∙_}
 use mathlib.Core.Logic.{_≢_}
-use mathlib.Core.List.{List, []}
+use mathlib.Core.List.{List}
 use Prim.Native.Nat.{ℕ, _<_, _≤_}
 use borrow.Author.Tests.{le-ltb, lt-ltb}
-use lib.ListN.{length, getD}
+use lib.ListN.{getD}
 use Rattle.field.specs.Slots.{none}
 use Rattle.field.specs.Inner.{Chain, firstOr, lastOr, below, from}
 use Rattle.field.proofs.Chains.{chain-unique, chain-cons, chain-nil}

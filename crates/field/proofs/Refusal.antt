@@ -1,9 +1,9 @@
 -- A span is refused exactly when it shares no height with its column and the spans of all columns together fill the store.
-use mathlib.Core.Path.{_≡_, refl, sym, ap, subst, _∙_}
-use mathlib.Core.Logic.{_⊎_, inl, inr, ⊎-elim, _↔_}
-use mathlib.Core.Bool.{true, false}
+use mathlib.Core.Path.{_≡_, refl, sym, ap, _∙_}
+use mathlib.Core.Logic.{inl, inr, ⊎-elim, _↔_}
+use mathlib.Core.Bool.{false}
 use mathlib.Core.List.{List, [], _∷_, map, foldl}
-use Prim.Native.Nat.{ℕ, suc, _+_, _<_, _≤_}
+use Prim.Native.Nat.{ℕ, suc, _<_, _≤_}
 use native.Mathlib.Omega.{arith}
 use borrow.Author.Tests.{ltb-true, ltb-false}
 use lib.ListN.{length, getD}
@@ -17,7 +17,7 @@ use Rattle.field.proofs.Basics.{by-test, no-length, true-false}
 use Rattle.field.proofs.Walking.{asc-in}
 use Rattle.field.proofs.Holding.{slot-total}
 use Rattle.field.proofs.Inserting.{walkOf}
-use Rattle.field.proofs.Accepting.{Kept, Accepts, Refuses, refuses, insert-cases}
+use Rattle.field.proofs.Accepting.{Refuses, refuses, insert-cases}
 
 -- where the new span shares no height with the column nothing merges
 apart-merged : (k : Contents) (th : ℕ) (new : Span) (ss : List ℕ) → ((s : Range) → In s (map (rangeAt k) ss) → Shares (range new) s → ⊥) → walkUp (spanAt k) th new ss .merged ≡ []

@@ -1,16 +1,15 @@
 -- What stands after any calls from a fresh field on: a sound field, each column of which covers the spans accepted there.
 use mathlib.Core.Path.{_≡_, refl, sym, ap, subst, _∙_}
-use mathlib.Core.Logic.{_≢_, _⊎_, inl, inr, ⊎-elim}
+use mathlib.Core.Logic.{_≢_, inl, inr, ⊎-elim}
 use mathlib.Core.Bool.{true}
 use mathlib.Core.List.{List, [], _∷_, _++_, map}
-use Prim.Native.Nat.{ℕ, suc, _+_, _*_, _<_, _≤_}
+use Prim.Native.Nat.{ℕ, _+_, _*_, _<_, _≤_}
 use native.Mathlib.Omega.{arith}
 use native.Mathlib.Nat.{mul-le-mul-right, suc-mul, mul-comm}
 use native.Mathlib.Decide.{ℕ-discrete}
 use borrow.Author.Tests.{eq-eqb, ne-eqb}
-use lib.ListN.{length, take, replicate, length-replicate, length-take}
+use lib.ListN.{length, take, length-replicate, length-take}
 use lib.Seq.{length-take-le}
-use lib.Dec.{eqb}
 use Rattle.replies.specs.Said.{Said, just, Asks}
 use Rattle.grid.specs.declared.Grid.{Grid}
 use Rattle.grid.specs.Grid.{width, height, columns, gridSays}
@@ -19,12 +18,12 @@ use Rattle.field.specs.Spans.{range, insertColumn}
 use Rattle.field.specs.Slots.{Contents, Slots}
 use Rattle.field.specs.Field.{Field, columnAt, spans, ranges, Holds, freshField, Inserted, insert}
 use Rattle.field.specs.Store.{Store, Fits, Fitting, Sound, cleared, Outcome, left, Admits, Becomes}
-use Rattle.field.specs.Calls.{Made, made, IsFresh, Freshened, Inserts, Offers, Added}
+use Rattle.field.specs.Calls.{Made, made, IsFresh, Freshened, Inserts, Offers}
 use Rattle.field.specs.History.{Call, addSpan, Does, Step, History, start, then, Begins, Placed, placedBy, inColumn, acceptedIn}
 use Rattle.field.proofs.Basics.{by-dec, true-false}
 use Rattle.field.proofs.Contents.{ranges-spans}
 use Rattle.field.proofs.Walking.{insertRange, column-ranges}
-use Rattle.field.proofs.Accepting.{Kept, Accepts, Refuses, insert-cases}
+use Rattle.field.proofs.Accepting.{Kept, Accepts, insert-cases}
 use Rattle.field.proofs.Stretching.{Covers, covers-insert}
 use Rattle.field.proofs.Emptying.{fresh-covers}
 use Rattle.field.proofs.Unique.{store-fixed, field-fixed}
@@ -182,7 +181,7 @@ module _ {g : Grid} {A : ℕ → List Span} {s : Store} (S : Standing g A s) (x 
   ordered xw zh (inl a) = refused (just 9) refl (a .1)
   ordered xw zh (inr a) = inserts xw zh (a .0) (a .1 .0) (field-fixed (a .1 .1) (S .holds)) (a .1 .2)
 
-  inside : Offers g x z new th s o → Standing g (after g (addSpan x z new th) (o .said) A) (o .store)
+  inside : Offers (width g) (height g) x z new th s o → Standing g (after g (addSpan x z new th) (o .said) A) (o .store)
   inside (inl a) = refused (just 8) refl (a .1)
   inside (inr a) = ordered (a .0 .0) (a .0 .1) (a .1)
 
@@ -202,7 +201,7 @@ admitted {g = g} {s = s} S ends Fitted next o fitted (inr a) = slices (a .1)
 -- ---- any call, and any calls
 
 does-stands : {g : Grid} {A : ℕ → List Span} {s : Store} → Standing g A s → (call : Call) (o : Outcome) → Does g call s o → Standing g (after g call (o .said) A) (o .store)
-does-stands {g} {A} {s} S (addSpan x z new th) o d = inside S x z new th o (admitted S left (Fitting (columns g) s) (Offers g x z new th s) o (S .fits) d)
+does-stands {g} {A} {s} S (addSpan x z new th) o d = inside S x z new th o (admitted S left (Fitting (columns g) s) (Offers (width g) (height g) x z new th s) o (S .fits) d)
 
 pub history-stands : (g : Grid) (s : Store) → Begins g s → {steps : List Step} {t : Store} → History g s steps t → Standing g (λ i. acceptedIn g i steps) t
 history-stands g s b start = begins-stands g s b

@@ -1,16 +1,28 @@
 -- The loop that marks the columns one after another.
-use mathlib.Core.Path.{_≡_, refl, sym, ap, _∙_}
+use mathlib.Core.Path.{_≡_, refl, ap, _∙_}
 use mathlib.Core.List.{List, [], _∷_, _++_}
-use Prim.Native.Nat.{ℕ, suc, _+_, _<_, _≤_}
+use Prim.Native.Nat.{ℕ, zero, suc, _+_, _<_, _≤_}
 use native.Mathlib.Omega.{arith}
-use native.Mathlib.Decide.{ℕ-discrete}
-use lib.ListN.{length, getD, length-append, List·getD-append}
+use native.Mathlib.Decide.{decLt, ℕ-discrete}
+use lib.ListN.{length, getD, length-append, replicate, getD-replicate, length-replicate, List·getD-append, List·getD-eq-default}
 use lib.Seq.{getD-append-seam}
-use Rattle.field.specs.Slots.{none, Run, times, timesIn}
+use Rattle.field.specs.Slots.{none, times, timesIn}
 use Rattle.field.specs.Marks.{Flags, unmarked, Free, Marked, Broken, Climbs, Columns, MarkedAll, BrokenAll}
 use Rattle.field.proofs.Basics.{by-dec}
 use Rattle.field.proofs.Counting.{timesIn-append}
 use Rattle.field.proofs.Chains.{run-unique}
+
+-- ---- marks that are all 0
+
+replicate-zero : (n x : ℕ) → getD {A = ℕ} (replicate n 0) x 0 ≡ 0
+replicate-zero n x =
+    by-dec (decLt x n) (λ l. getD-replicate n x 0 0 l) (λ k. List·getD-eq-default {A = ℕ} (replicate n 0) 0 {n = x} (omega (arith, length-replicate {A = ℕ} n 0)))
+
+unmarked-zero : (n : ℕ) → unmarked (replicate n 0) ≡ n
+unmarked-zero zero = refl
+unmarked-zero (suc n) = omega (arith, unmarked-zero n)
+
+-- ---- the loop
 
 -- the first columns and the next one count no more than all
 first-times : (x : ℕ) (cs ds : List (List ℕ)) → length cs < length ds → ((j : ℕ) → j < length cs → getD cs j [] ≡ getD ds j []) → timesIn x cs + times x (getD ds (length cs) []) ≤ timesIn x ds
@@ -31,16 +43,16 @@ pub record Surveyed (heads fl ce nx mk : List ℕ) (i n : ℕ) : Type 0 where
   pub size : length mk ≡ length nx
   pub few : length nx ≤ 1048576
 
-pub surveyed-start : (heads fl ce nx mk : List ℕ) → (length fl ≡ length nx) × (length ce ≡ length nx) → length mk ≡ length nx → length nx ≤ 1048576 → ((x : ℕ) → getD mk x 0 ≡ 0) → unmarked mk ≡ length nx → Surveyed heads fl ce nx mk 0 0
-surveyed-start heads fl ce nx mk sizes size few zero-marks c =
+pub surveyed-start : (heads fl ce nx mk : List ℕ) → (length fl ≡ length nx) × (length ce ≡ length nx) → length nx ≤ 1048576 → mk ≡ replicate (length nx) 0 → Surveyed heads fl ce nx mk 0 0
+surveyed-start heads fl ce nx mk sizes few e =
     record {
       cs = [];
       columns = record { size = refl; column = λ i l. absurd (omega arith); ascends = λ i l. absurd (omega arith); once = λ x. omega arith };
-      marks = zero-marks;
-      count = omega arith;
+      marks = λ x. rw e (replicate-zero (length nx) x);
+      count = rw e (omega (arith, unmarked-zero (length nx)));
       within = omega arith;
       sizes = sizes;
-      size = size;
+      size = ap length e ∙ length-replicate (length nx) 0;
       few = few;
     }
 

@@ -1,18 +1,18 @@
 -- A new span's walk up a column: its parts, and the column that it leaves.
-use mathlib.Core.Path.{_≡_, refl, sym, ap, _∙_}
-use mathlib.Core.Logic.{_≢_, _⊎_, inl, inr, _↔_, ⊎-elim}
+use mathlib.Core.Path.{_≡_, refl, ap}
+use mathlib.Core.Logic.{inl, inr}
 use mathlib.Core.Bool.{cond}
 use mathlib.Core.List.{List, [], _∷_, _++_, map, append-nil}
 use Prim.Native.Nat.{ℕ, suc, _+_, _<_, _≤_, min, max}
 use native.Mathlib.Omega.{arith}
 use native.Mathlib.Decide.{decLt}
-use borrow.Author.Tests.{ltb-true, ltb-false, le-ltb, lt-ltb}
+use borrow.Author.Tests.{ltb-true, ltb-false, le-ltb}
 use lib.Dec.{ltb}
-use lib.ListN.{length, getD}
+use lib.ListN.{getD}
 use Rattle.field.specs.declared.Span.{Span}
-use Rattle.field.specs.Spans.{Range, range, Ascends, joined, Walk, passes, merges, stops, walkUp, insertColumn}
+use Rattle.field.specs.Spans.{Range, range, Ascends, joined, Walk, passes, merges, walkUp, insertColumn}
 use Rattle.field.specs.Slots.{Contents, spanAt, rangeAt, times}
-use Rattle.field.specs.Stretches.{In, Shares}
+use Rattle.field.specs.Stretches.{In}
 use Rattle.field.specs.Inner.{below, from, Over}
 use Rattle.field.proofs.Basics.{by-test, by-dec}
 use Rattle.field.proofs.Counting.{times-first, times-here}

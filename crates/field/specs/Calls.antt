@@ -44,13 +44,13 @@ Inserts n i new threshold s o =
     × Holds (take n (s .heads)) (s .slots) f
     × Asks (insert threshold f i new .accepted ≡ true) (left (just 5) (cleared s)) (Becomes n s (insert threshold f i new .field)) o
 
--- where x and z are inside the grid (8), and its floor is not above its ceiling (9)
-abbrev pub Offers : Grid → ℕ → ℕ → Span → ℕ → Store → Outcome → Type 0
-Offers g x z new threshold s =
-    Asks ((x < width g) × (z < height g)) (left (just 8) (cleared s))
+-- where x and z are inside a grid of w × h cells (8), and the floor is not above the ceiling (9)
+abbrev pub Offers : ℕ → ℕ → ℕ → ℕ → Span → ℕ → Store → Outcome → Type 0
+Offers w h x z new threshold s =
+    Asks ((x < w) × (z < h)) (left (just 8) (cleared s))
     (Asks (new .floor ≤ new .ceiling) (left (just 9) (cleared s))
-    (Inserts (columns g) (x + z * width g) new threshold s))
+    (Inserts (w * h) (x + z * w) new threshold s))
 
 -- 1, 2, 3, 4, 14, then 8, 9 and 5
 abbrev pub Added : Grid → ℕ → ℕ → Span → ℕ → Store → Outcome → Type 0
-Added g x z new threshold s = Admits left g (Fitting (columns g) s) s (Offers g x z new threshold s)
+Added g x z new threshold s = Admits left g (Fitting (columns g) s) s (Offers (width g) (height g) x z new threshold s)
