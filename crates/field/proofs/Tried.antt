@@ -30,14 +30,14 @@ try slots threshold offers replies leaves =
 
 pub table : List Case
 table =
-    try 4 1 (span 2 5 3 ∷ span 5 9 1 ∷ []) (0 ∷ 0 ∷ []) (span 2 9 1 ∷ []) -- P1
-    ∷ try 4 1 (span 2 5 3 ∷ span 4 6 1 ∷ []) (0 ∷ 0 ∷ []) (span 2 6 3 ∷ []) -- P2
-    ∷ try 4 0 (span 2 5 1 ∷ span 7 9 2 ∷ span 6 6 3 ∷ []) (0 ∷ 0 ∷ 0 ∷ []) (span 2 5 1 ∷ span 6 6 3 ∷ span 7 9 2 ∷ []) -- P3
-    ∷ try 4 0 (span 2 5 3 ∷ span 7 9 4 ∷ span 5 7 1 ∷ []) (0 ∷ 0 ∷ 0 ∷ []) (span 2 9 4 ∷ []) -- P4
-    ∷ try 4 0 (span 0 1 9 ∷ span 1 9 1 ∷ []) (0 ∷ 0 ∷ []) (span 0 9 1 ∷ []) -- P5
-    ∷ try 4 0 (span 1 9 1 ∷ span 0 1 9 ∷ []) (0 ∷ 0 ∷ []) (span 0 9 9 ∷ []) -- P5, the other order
-    ∷ try 1 0 (span 2 5 3 ∷ span 6 7 1 ∷ []) (0 ∷ 5 ∷ []) (span 2 5 3 ∷ []) -- P6
-    ∷ try 1 0 (span 2 5 3 ∷ span 5 7 1 ∷ []) (0 ∷ 0 ∷ []) (span 2 7 1 ∷ []) -- P6, a span that shares a height
+    try 4 1 (span 2 5 3 ∷ span 5 9 1 ∷ []) (0 ∷ 0 ∷ []) (span 2 9 1 ∷ [])  -- P1
+    ∷ try 4 1 (span 2 5 3 ∷ span 4 6 1 ∷ []) (0 ∷ 0 ∷ []) (span 2 6 3 ∷ [])  -- P2
+    ∷ try 4 0 (span 2 5 1 ∷ span 7 9 2 ∷ span 6 6 3 ∷ []) (0 ∷ 0 ∷ 0 ∷ []) (span 2 5 1 ∷ span 6 6 3 ∷ span 7 9 2 ∷ [])  -- P3
+    ∷ try 4 0 (span 2 5 3 ∷ span 7 9 4 ∷ span 5 7 1 ∷ []) (0 ∷ 0 ∷ 0 ∷ []) (span 2 9 4 ∷ [])  -- P4
+    ∷ try 4 0 (span 0 1 9 ∷ span 1 9 1 ∷ []) (0 ∷ 0 ∷ []) (span 0 9 1 ∷ [])  -- P5
+    ∷ try 4 0 (span 1 9 1 ∷ span 0 1 9 ∷ []) (0 ∷ 0 ∷ []) (span 0 9 9 ∷ [])  -- P5, the other order
+    ∷ try 1 0 (span 2 5 3 ∷ span 6 7 1 ∷ []) (0 ∷ 5 ∷ []) (span 2 5 3 ∷ [])  -- P6
+    ∷ try 1 0 (span 2 5 3 ∷ span 5 7 1 ∷ []) (0 ∷ 0 ∷ []) (span 2 7 1 ∷ [])  -- P6, a span that shares a height
     ∷ []
 
 -- ---- what an entry states
