@@ -36,3 +36,4 @@ pub mod Ledging
 pub mod Admitting
 pub mod Offering
 pub mod Tried
+pub mod FilterCalls
