@@ -45,6 +45,9 @@ table =
     ∷ try 4 0 (span 1 9 1 ∷ span 0 1 9 ∷ []) (0 ∷ 0 ∷ []) (span 0 9 9 ∷ [])  -- P5, the other order
     ∷ try 1 0 (span 2 5 3 ∷ span 6 7 1 ∷ []) (0 ∷ 5 ∷ []) (span 2 5 3 ∷ [])  -- P6
     ∷ try 1 0 (span 2 5 3 ∷ span 5 7 1 ∷ []) (0 ∷ 0 ∷ []) (span 2 7 1 ∷ [])  -- P6, a span that shares a height
+    ∷ tryFilter 4 0 (span 0 1 5 ∷ span 3 4 0 ∷ span 5 6 0 ∷ []) (0 ∷ 0 ∷ 0 ∷ []) (lowObstacles 3) (span 0 1 5 ∷ span 3 4 5 ∷ span 5 6 0 ∷ [])  -- P10
+    ∷ tryFilter 4 0 (span 0 65530 7 ∷ []) (0 ∷ []) (lowCeilings 5) (span 0 65530 7 ∷ [])  -- P11
+    ∷ tryFilter 4 0 (span 0 65530 7 ∷ []) (0 ∷ []) (lowCeilings 6) (span 0 65530 0 ∷ [])  -- P11, one more
     ∷ []
 
 -- ---- what an entry states
