@@ -3,9 +3,9 @@ use mathlib.Core.List.{List, [], _∷_}
 use Prim.Native.Nat.{ℕ}
 use Rattle.field.specs.Ledges.{Stand}
 use Rattle.field.specs.LedgeTest.{View, view}
-use Rattle.rerecast.specs.declared.pre_filter.Stand as code-stand
-use Rattle.rerecast.specs.declared.pre_filter.View as code-view
-use Rattle.rerecast.specs.declared.pre_filter.Sides.{Sides}
+use Rattle.rerecast.specs.declared.ledges.Stand as code-stand
+use Rattle.rerecast.specs.declared.ledges.View as code-view
+use Rattle.rerecast.specs.declared.ledges.Sides.{Sides}
 
 abbrev pub standOf : code-stand.Stand → Stand
 standOf s = record { top = s .top; roof = s .roof; height = s .height; climb = s .climb }

@@ -3,6 +3,7 @@
 mod admission;
 pub mod heightfield;
 mod insertion;
+mod ledges;
 pub mod pre_filter;
 mod slices;
 mod soundness;

@@ -14,8 +14,8 @@ use Rattle.field.proofs.Holding.{column-chain, column-distinct}
 use Rattle.field.proofs.Beside.{beside-off, beside-around, inner-below, rim-not}
 use Rattle.field.proofs.Assigning.{ruled-agree}
 use Rattle.field.proofs.Looking.{firm-off}
-use Rattle.rerecast.proofs.pre_filter.clear_column.Statement.{statement}
-use Rattle.rerecast.proofs.pre_filter.clear_column.Tie as tie
+use Rattle.rerecast.proofs.ledges.clear_column.Statement.{statement}
+use Rattle.rerecast.proofs.ledges.clear_column.Tie as tie
 use borrow.Author.Needs.{needs}
 
 -- the column's number is below that of the heads

@@ -4,8 +4,8 @@ use mathlib.Core.Path.{_≡_, ap, _∙_}
 use native.Mathlib.Omega.{arith}
 use Rattle.field.proofs.Chains.{chain-slot}
 use borrow.Author.Needs.{needs}
-use Rattle.rerecast.proofs.pre_filter.hollow_of.Statement.{statement}
-use Rattle.rerecast.proofs.pre_filter.hollow_of.Tie as tie
+use Rattle.rerecast.proofs.ledges.hollow_of.Statement.{statement}
+use Rattle.rerecast.proofs.ledges.hollow_of.Tie as tie
 
 in-pairs : (a b c d : ℕ) → max (max a b) (max c d) ≡ max a (max b (max c (max d 0)))
 in-pairs a b c d = assoc a b (max c d) ∙ ap (λ (n : ℕ). max a (max b (max c n))) (over-zero d)

@@ -1,6 +1,6 @@
 -- `follow` meets its contract.
-use Rattle.rerecast.proofs.pre_filter.follow.Statement.{statement}
-use Rattle.rerecast.proofs.pre_filter.follow.Tie as tie
+use Rattle.rerecast.proofs.ledges.follow.Statement.{statement}
+use Rattle.rerecast.proofs.ledges.follow.Tie as tie
 
 skip-requires : tie.Need-skip-requires
 skip-requires c κs = let p = c .before .before .pre in let k = p .1 .5 .0 in (p .0, (k .rest, k .chain))

@@ -11,8 +11,8 @@ use Rattle.field.proofs.Looking.{not-leb}
 use Rattle.field.proofs.Cursors.{cursor-look, look-around}
 use Rattle.rerecast.specs.PreFilter.{standOf, viewOf, sidesOf}
 use borrow.Author.Needs.{needs}
-use Rattle.rerecast.proofs.pre_filter.looks_steep.Statement.{statement}
-use Rattle.rerecast.proofs.pre_filter.looks_steep.Tie as tie
+use Rattle.rerecast.proofs.ledges.looks_steep.Statement.{statement}
+use Rattle.rerecast.proofs.ledges.looks_steep.Tie as tie
 
 -- the view after the fourth look
 all-seen : (c : tie.After-look4) (areas : List ℕ) (at : ℕ → List Span) (w i : ℕ)

@@ -10,8 +10,8 @@ use Rattle.field.specs.FilterCode.{Cursor}
 use Rattle.field.proofs.Chains.{chain-slot, chain-cons, chain-less}
 use Rattle.field.proofs.Upward.{roof-of}
 use Rattle.field.proofs.Cursors.{cursor-next}
-use Rattle.rerecast.proofs.pre_filter.skip.Statement.{statement}
-use Rattle.rerecast.proofs.pre_filter.skip.Tie as tie
+use Rattle.rerecast.proofs.ledges.skip.Statement.{statement}
+use Rattle.rerecast.proofs.ledges.skip.Tie as tie
 use borrow.Author.Needs.{needs}
 
 abbrev Inv-loop : tie.InvT-loop

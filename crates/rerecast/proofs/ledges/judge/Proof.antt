@@ -11,8 +11,8 @@ use Rattle.field.specs.FilterCode.{around, Inside, hollowOf, Cursors}
 use Rattle.field.proofs.Looking.{ledge-low, ledge-gap, ledge-look}
 use Rattle.rerecast.specs.PreFilter.{standOf, sidesOf}
 use borrow.Author.Needs.{needs}
-use Rattle.rerecast.proofs.pre_filter.judge.Statement.{statement}
-use Rattle.rerecast.proofs.pre_filter.judge.Tie as tie
+use Rattle.rerecast.proofs.ledges.judge.Statement.{statement}
+use Rattle.rerecast.proofs.ledges.judge.Tie as tie
 
 zero-anyway : (b : Bool) → _≡_ {A = ℕ} 0 (cond b 0 0)
 zero-anyway true = refl

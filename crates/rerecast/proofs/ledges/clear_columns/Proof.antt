@@ -13,8 +13,8 @@ use Rattle.field.specs.Beside.{beside}
 use Rattle.field.specs.Filters.{ruled, assign, firm}
 use Rattle.field.proofs.Beside.{some-width, row-below, side-below}
 use Rattle.field.proofs.Sweeping.{Sweep, sweep-begin, sweep-step, sweep-end}
-use Rattle.rerecast.proofs.pre_filter.clear_columns.Statement.{statement}
-use Rattle.rerecast.proofs.pre_filter.clear_columns.Tie as tie
+use Rattle.rerecast.proofs.ledges.clear_columns.Statement.{statement}
+use Rattle.rerecast.proofs.ledges.clear_columns.Tie as tie
 
 abbrev Inv-loop : tie.InvT-loop
 Inv-loop heads floors ceilings areas₀ nexts width depth height climb c₀ i₀ areas c i =

@@ -8,8 +8,8 @@ use Rattle.field.specs.Slots.{none}
 use Rattle.field.specs.Inner.{slotsFrom}
 use Rattle.field.proofs.LookingUp.{LookingUp, looking-start, looking-slot, looking-next, looking-less, looking-step, looking-drop, looking-stop, looking-end}
 use Rattle.rerecast.specs.PreFilter.{standOf, viewOf}
-use Rattle.rerecast.proofs.pre_filter.look.Statement.{statement}
-use Rattle.rerecast.proofs.pre_filter.look.Tie as tie
+use Rattle.rerecast.proofs.ledges.look.Statement.{statement}
+use Rattle.rerecast.proofs.ledges.look.Tie as tie
 use borrow.Author.Needs.{needs}
 
 abbrev Inv-loop : tie.InvT-loop

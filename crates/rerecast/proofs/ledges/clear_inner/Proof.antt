@@ -1,4 +1,4 @@
--- `clear_inner` meets its contract: what is left of the column ends as the whole would, and a cursor in each column beside serves whoever stands there.
+-- `clear_inner` meets its contract: what is left of the column ends as the whole would, and a cursor in each column beside serves an agent that stands there.
 use Prim.Native.Nat.{ℕ, _<_, _≤_}
 use mathlib.Core.Path.{_≡_, sym, ap, subst, _∙_}
 use mathlib.Core.List.{List, map}
@@ -12,8 +12,8 @@ use Rattle.field.proofs.Upward.{upward-slot, upward-next, upward-less, upward-e
 use Rattle.field.proofs.Cursors.{cursors-first, hollow-first, around-inside}
 use Rattle.field.proofs.Ledging.{Ledging, ledging-start, ledging-serves, ledging-step}
 use Rattle.rerecast.specs.PreFilter.{sidesOf}
-use Rattle.rerecast.proofs.pre_filter.clear_inner.Statement.{statement}
-use Rattle.rerecast.proofs.pre_filter.clear_inner.Tie as tie
+use Rattle.rerecast.proofs.ledges.clear_inner.Statement.{statement}
+use Rattle.rerecast.proofs.ledges.clear_inner.Tie as tie
 use borrow.Author.Needs.{needs}
 
 abbrev Inv-loop : tie.InvT-loop

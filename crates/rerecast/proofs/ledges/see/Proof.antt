@@ -5,8 +5,8 @@ use Rattle.field.specs.LedgeTest.{roomy}
 use Rattle.field.proofs.Looking.{see-shut, see-falls, see-above, see-level}
 use Rattle.rerecast.specs.PreFilter.{standOf, viewOf}
 use borrow.Author.Needs.{needs}
-use Rattle.rerecast.proofs.pre_filter.see.Statement.{statement}
-use Rattle.rerecast.proofs.pre_filter.see.Tie as tie
+use Rattle.rerecast.proofs.ledges.see.Statement.{statement}
+use Rattle.rerecast.proofs.ledges.see.Tie as tie
 
 -- the test of the room
 room : (c : tie.After-has-room) → c .has-room .result ≡ roomy (standOf (c .before .before .before .args .st)) (c .before .before .before .args .ceiling) (c .before .before .before .args .floor)
