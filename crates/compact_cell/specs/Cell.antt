@@ -6,10 +6,11 @@ use lib.Dec.{ltb}
 use lib.ListN.{length, getD, set}
 use Rattle.compact_cell.specs.declared.CompactCell.{CompactCell}
 
+-- a cell from its two fields
 abbrev pub cellOf : ℕ → ℕ → CompactCell
 cellOf i n = record { index = i; count = n }
 
--- one more; 255 stays
+-- the count with one more span; 255 stays
 abbrev pub countAfter : ℕ → ℕ
 countAfter n = min (n + 1) 255
 

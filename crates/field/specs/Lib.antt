@@ -7,3 +7,9 @@ pub mod Calls
 pub mod History
 pub mod Inner
 pub mod Marks
+pub mod Walkable
+pub mod Beside
+pub mod Ledges
+pub mod LedgeTest
+pub mod Filters
+pub mod FilterCode

@@ -1,3 +1,4 @@
 pub mod Told
 pub mod Admitted
 pub mod Answers
+pub mod Filtered

@@ -3,6 +3,7 @@
 mod admission;
 pub mod heightfield;
 mod insertion;
+pub mod pre_filter;
 mod slices;
 mod soundness;
 
