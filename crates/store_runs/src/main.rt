@@ -6,8 +6,11 @@ use grid::Corner;
 use grid::Grid;
 use rerecast::Reply;
 use rerecast::heightfield;
+ghost use mathlib.Core.Path.{_≡_};
+ghost use Prim.Native.Nat.{_≤_};
+ghost use lib.ListN.{length};
 
-// All that is lent. The grid has two columns, so the last two heads are past what is needed.
+// All that is lent: of the slots the first few. The grid has two columns, so the last two heads are past what is needed.
 struct Store {
     slots: usize,
     heads: [u32; 4],
@@ -47,22 +50,23 @@ fn number(r: Reply) -> u64 {
     }
 }
 
-// Two cells by one, each of size 1.
-fn two_cells() -> Grid {
+// A grid of cells of one size, one cell high, from the origin up to x and y.
+fn cells(x: f32, y: f32, size: f32) -> Grid {
     Grid {
         min: Corner {
             x: 0.0,
             y: 0.0,
             z: 0.0,
         },
-        max: Corner {
-            x: 2.0,
-            y: 8.0,
-            z: 1.0,
-        },
-        cell_size: 1.0,
+        max: Corner { x, y, z: 1.0 },
+        cell_size: size,
         cell_height: 1.0,
     }
+}
+
+// Two cells by one.
+fn two_cells() -> Grid {
+    cells(2.0, 8.0, 1.0)
 }
 
 // A store that nobody has written to yet, with a mark on every slot.
@@ -79,14 +83,45 @@ fn untouched(slots: usize) -> Store {
     }
 }
 
+// Copies, of which a part can be lent.
+fn words(a: [u32; 4]) -> [u32; 4]
+    ensures { λ r. ⌜ 4 ≡ length r ⌝ }
+{
+    [a[0], a[1], a[2], a[3]]
+}
+
+fn heights(a: [u16; 4]) -> [u16; 4]
+    ensures { λ r. ⌜ 4 ≡ length r ⌝ }
+{
+    [a[0], a[1], a[2], a[3]]
+}
+
+fn bytes(a: [u8; 4]) -> [u8; 4]
+    ensures { λ r. ⌜ 4 ≡ length r ⌝ }
+{
+    [a[0], a[1], a[2], a[3]]
+}
+
+// How many of the four slots are lent.
+fn lent(s: Store) -> usize
+    ensures { λ r. ⌜ r ≤ 4 ⌝ }
+{
+    let n = s.slots;
+    if n < 4 { n } else { 4 }
+}
+
 fn fresh(s: Store, grid: Grid) -> Ran {
-    let n = if s.slots < 4 { s.slots } else { 4 };
+    let n = lent(s);
     let mut heads = s.heads;
     let mut free = s.free;
-    let mut floors = s.floors;
-    let mut ceilings = s.ceilings;
-    let mut areas = s.areas;
-    let mut nexts = s.nexts;
+    let old_floors = s.floors;
+    let mut floors = heights(old_floors);
+    let old_ceilings = s.ceilings;
+    let mut ceilings = heights(old_ceilings);
+    let old_areas = s.areas;
+    let mut areas = bytes(old_areas);
+    let old_nexts = s.nexts;
+    let mut nexts = words(old_nexts);
     let marks = s.marks;
     let reply = heightfield::fresh(
         grid,
@@ -111,14 +146,19 @@ fn fresh(s: Store, grid: Grid) -> Ran {
 }
 
 fn add(s: Store, grid: Grid, x: u32, z: u32, span: Span) -> Ran {
-    let n = if s.slots < 4 { s.slots } else { 4 };
+    let n = lent(s);
     let mut heads = s.heads;
     let mut free = s.free;
-    let mut floors = s.floors;
-    let mut ceilings = s.ceilings;
-    let mut areas = s.areas;
-    let mut nexts = s.nexts;
-    let mut marks = s.marks;
+    let old_floors = s.floors;
+    let mut floors = heights(old_floors);
+    let old_ceilings = s.ceilings;
+    let mut ceilings = heights(old_ceilings);
+    let old_areas = s.areas;
+    let mut areas = bytes(old_areas);
+    let old_nexts = s.nexts;
+    let mut nexts = words(old_nexts);
+    let old_marks = s.marks;
+    let mut marks = bytes(old_marks);
     let reply = heightfield::add_span(
         grid,
         &mut heads,
@@ -160,20 +200,23 @@ fn same_bytes(a: [u8; 4], b: [u8; 4]) -> bool {
 
 // Whether two stores hold the same, their marks apart.
 fn same_field(a: Store, b: Store) -> bool {
-    let links = same_words(a.heads, b.heads) && a.free == b.free && same_words(a.nexts, b.nexts);
-    let heights = same_heights(a.floors, b.floors) && same_heights(a.ceilings, b.ceilings);
-    links && heights && same_bytes(a.areas, b.areas)
+    let heads = a.heads;
+    let heads_before = b.heads;
+    let nexts = a.nexts;
+    let nexts_before = b.nexts;
+    let links = same_words(heads, heads_before) && same_words(nexts, nexts_before);
+    links && a.free == b.free && same_spans(a, b)
 }
 
-// Whether the marks of the lent slots are 0, and the others as they were.
-fn marks_cleared(before: Store, after: Store) -> bool {
-    let m = after.marks;
-    let o = before.marks;
-    let first = if after.slots > 0 { 0 } else { o[0] };
-    let second = if after.slots > 1 { 0 } else { o[1] };
-    let third = if after.slots > 2 { 0 } else { o[2] };
-    let fourth = if after.slots > 3 { 0 } else { o[3] };
-    m[0] == first && m[1] == second && m[2] == third && m[3] == fourth
+fn same_spans(a: Store, b: Store) -> bool {
+    let floors = a.floors;
+    let floors_before = b.floors;
+    let ceilings = a.ceilings;
+    let ceilings_before = b.ceilings;
+    let areas = a.areas;
+    let areas_before = b.areas;
+    let heights = same_heights(floors, floors_before) && same_heights(ceilings, ceilings_before);
+    heights && same_bytes(areas, areas_before)
 }
 
 fn say_span(floor: u16, ceiling: u16, area: u8) {
@@ -188,7 +231,7 @@ fn say_span(floor: u16, ceiling: u16, area: u8) {
 // The spans of a chain, of at most four slots.
 fn say_chain(s: Store, head: u32) {
     let mut at = head;
-    let mut k = 0;
+    let mut k: usize = 0;
     while k < 4 {
         if at >= 4 {
             return;
@@ -216,25 +259,25 @@ fn say_left(before: Store, after: Store) {
     say_chain(after, heads[1]);
 }
 
-fn say_marks(before: Store, after: Store) {
-    if marks_cleared(before, after) {
-        say(b"; marks 0\n");
-        return;
-    }
-    if same_bytes(before.marks, after.marks) {
-        say(b"; marks as before\n");
-        return;
-    }
-    say(b"; marks changed\n");
+fn say_marks(s: Store) {
+    let marks = s.marks;
+    say(b"; marks ");
+    say_number(marks[0] as u64);
+    say_number(marks[1] as u64);
+    say_number(marks[2] as u64);
+    say_number(marks[3] as u64);
+    say(b"\n");
 }
 
 // One line of the table; the store goes on.
 fn row(name: &[u8], before: Store, ran: Ran) -> Store {
+    let reply = ran.reply;
+    let after = ran.store;
     say(name);
-    say_number(number(ran.reply));
-    say_left(before, ran.store);
-    say_marks(before, ran.store);
-    ran.store
+    say_number(number(reply));
+    say_left(before, after);
+    say_marks(after);
+    after
 }
 
 fn try_fresh(name: &[u8], s: Store, grid: Grid) -> Store {
@@ -301,18 +344,26 @@ fn refused_stores() {
         untouched(0),
         two_cells(),
     );
-    let mut wide = two_cells();
-    wide.max.x = 5.0;
-    try_fresh(b"  fresh, five columns, four heads ", untouched(4), wide);
-    let mut thin = two_cells();
-    thin.max.x = 0.0;
-    try_fresh(b"  fresh, width 0                  ", untouched(4), thin);
-    let mut turned = two_cells();
-    turned.max.y = -1.0;
-    try_fresh(b"  fresh, a box upside down        ", untouched(4), turned);
-    let mut fine = two_cells();
-    fine.cell_size = 0.0;
-    try_fresh(b"  fresh, cell size 0              ", untouched(4), fine);
+    try_fresh(
+        b"  fresh, five columns, four heads ",
+        untouched(4),
+        cells(5.0, 8.0, 1.0),
+    );
+    try_fresh(
+        b"  fresh, width 0                  ",
+        untouched(4),
+        cells(0.0, 8.0, 1.0),
+    );
+    try_fresh(
+        b"  fresh, a box upside down        ",
+        untouched(4),
+        cells(2.0, -1.0, 1.0),
+    );
+    try_fresh(
+        b"  fresh, cell size 0              ",
+        untouched(4),
+        cells(2.0, 8.0, 0.0),
+    );
     try_add(
         b"  a span into a store never made  ",
         untouched(4),
@@ -325,75 +376,90 @@ fn refused_stores() {
 
 // A sound field: [2,5] and [7,9] in column 0 (slots 0 and 1), [1,1] in column 1 (slot 2), slot 3 free.
 fn sound() -> Store {
-    let a = fresh(untouched(4), two_cells());
-    let low = Span {
-        floor: 2,
-        ceiling: 5,
-        area: 1,
-    };
-    let high = Span {
-        floor: 7,
-        ceiling: 9,
-        area: 2,
-    };
-    let other = Span {
-        floor: 1,
-        ceiling: 1,
-        area: 3,
-    };
-    let b = add(a.store, two_cells(), 0, 0, low);
-    let c = add(b.store, two_cells(), 0, 0, high);
-    let d = add(c.store, two_cells(), 1, 0, other);
-    let mut s = d.store;
-    s.marks = [9; 4];
+    Store {
+        slots: 4,
+        heads: [0, 2, 7, 7],
+        free: 3,
+        floors: [2, 7, 1, 0],
+        ceilings: [5, 9, 1, 0],
+        areas: [1, 2, 3, 0],
+        nexts: [1, NONE, NONE, NONE],
+        marks: [9; 4],
+    }
+}
+
+// The sound field with one thing wrong.
+fn with_heads(heads: [u32; 4]) -> Store {
+    let mut s = sound();
+    s.heads = heads;
     s
 }
 
-fn damaged() {
-    say(b"fields that are damaged; then [20,21] at 0,0\n");
-    try_add(b"  none: the field is sound        ", sound(), 0, 0, 20, 21);
-    let mut cycle = sound();
-    cycle.nexts = [0, NONE, NONE, NONE];
-    try_add(b"  a column that runs in a circle  ", cycle, 0, 0, 20, 21);
-    let mut shared = sound();
-    shared.heads = [0, 1, 7, 7];
-    try_add(b"  a slot in two columns           ", shared, 0, 0, 20, 21);
-    let mut taken = sound();
-    taken.free = 2;
-    try_add(b"  a free slot in a column         ", taken, 0, 0, 20, 21);
-    let mut lost = sound();
-    lost.free = NONE;
-    try_add(b"  a slot in no chain              ", lost, 0, 0, 20, 21);
-    let mut wild = sound();
-    wild.heads = [0, 4, 7, 7];
-    try_add(b"  a head that names no slot       ", wild, 0, 0, 20, 21);
-    let mut stray = sound();
-    stray.nexts = [1, 4, NONE, NONE];
-    try_add(b"  a next that names no slot       ", stray, 0, 0, 20, 21);
-    let mut inverted = sound();
-    inverted.floors = [6, 7, 1, 0];
-    try_add(
+fn with_free(free: u32) -> Store {
+    let mut s = sound();
+    s.free = free;
+    s
+}
+
+fn with_nexts(nexts: [u32; 4]) -> Store {
+    let mut s = sound();
+    s.nexts = nexts;
+    s
+}
+
+fn with_floors(floors: [u16; 4]) -> Store {
+    let mut s = sound();
+    s.floors = floors;
+    s
+}
+
+fn with_ceilings(ceilings: [u16; 4]) -> Store {
+    let mut s = sound();
+    s.ceilings = ceilings;
+    s
+}
+
+fn damaged(name: &[u8], s: Store) {
+    try_add(name, s, 0, 0, 20, 21);
+}
+
+fn damaged_fields() {
+    say(b"[20,21] at 0,0 offered to a field that is damaged\n");
+    damaged(b"  in no way                       ", sound());
+    damaged(
+        b"  in no way: a span right above   ",
+        with_floors([2, 6, 1, 0]),
+    );
+    damaged(
+        b"  a column runs in a circle       ",
+        with_nexts([0, NONE, NONE, NONE]),
+    );
+    damaged(
+        b"  a slot in two columns           ",
+        with_heads([0, 1, 7, 7]),
+    );
+    damaged(b"  a free slot in a column         ", with_free(2));
+    damaged(b"  a slot in no chain              ", with_free(NONE));
+    damaged(
+        b"  a head names no slot            ",
+        with_heads([0, 4, 7, 7]),
+    );
+    damaged(
+        b"  a next names no slot            ",
+        with_nexts([1, 4, NONE, NONE]),
+    );
+    damaged(
         b"  a floor above its ceiling       ",
-        inverted,
-        0,
-        0,
-        20,
-        21,
+        with_floors([6, 7, 1, 0]),
     );
-    let mut touching = sound();
-    touching.ceilings = [7, 9, 1, 0];
-    try_add(
-        b"  two spans that share a height   ",
-        touching,
-        0,
-        0,
-        20,
-        21,
+    damaged(
+        b"  two spans share a height        ",
+        with_ceilings([7, 9, 1, 0]),
     );
-    let mut falling = sound();
-    falling.floors = [2, 0, 1, 0];
-    falling.ceilings = [5, 1, 1, 0];
-    try_add(b"  a column that does not ascend   ", falling, 0, 0, 20, 21);
+    damaged(
+        b"  a column does not ascend        ",
+        with_floors([2, 0, 1, 0]),
+    );
 }
 
 fn main() {
@@ -401,5 +467,5 @@ fn main() {
     one_slot();
     refused_spans();
     refused_stores();
-    damaged();
+    damaged_fields();
 }
