@@ -1,4 +1,4 @@
--- Cursors in the columns beside: they serve whoever needs more, and move up past spans under floors that are too low.
+-- Cursors in the columns beside: they serve an agent that needs more, and move up past spans under floors that are too low.
 use mathlib.Core.Path.{_≡_, refl, sym, ap, _∙_}
 use mathlib.Core.Logic.{_≢_}
 use mathlib.Core.List.{List, [], _∷_, map}
@@ -20,11 +20,11 @@ use Rattle.field.proofs.Holding.{column-chain}
 use Rattle.field.proofs.Upward.{roof-of}
 use Rattle.field.proofs.Looking.{looked-skip}
 
--- a column's lowest slot is a cursor for everybody
+-- a column's lowest slot is a cursor for every agent
 pub cursor-start : (k : Contents) {nx : List ℕ} {h : ℕ} (ss : List ℕ) → Chain nx h ss → Ascends 0 (map (rangeAt k) ss) → Cursor k nx 0 (map (spanAt k) ss) h
 cursor-start k ss c r = record { rest = ss; chain = c; climbs = r; enough = λ st v l. refl }
 
--- a cursor serves whoever needs more
+-- a cursor serves an agent that needs more
 pub cursor-more : {k : Contents} {nx : List ℕ} {m : ℕ} {whole : List Span} {r : ℕ} (n : ℕ) → m ≤ n → Cursor k nx m whole r → Cursor k nx n whole r
 cursor-more n l c = record { rest = c .rest; chain = c .chain; climbs = c .climbs; enough = λ st v q. c .enough st v (omega arith) }
 

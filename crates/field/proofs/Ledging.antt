@@ -23,7 +23,7 @@ use Rattle.field.proofs.Cursors.{cursors-more, cursors-first}
 abbrev pub standAt : List ℕ → List ℕ → List ℕ → ℕ → ℕ → ℕ → Stand
 standAt fl ce nx height climb at = record { top = getD ce at 0; roof = roofAt fl (getD nx at 0); height = height; climb = climb }
 
--- what is left of the column lies from `low` up, and the cursors serve whoever stands there
+-- what is left of the column lies from `low` up, and the cursors serve an agent that stands there
 pub record Ledging (fl ce nx : List ℕ) (w i height climb : ℕ) (f : Field) (arf : List ℕ) (head : ℕ) (ar₀ ar : List ℕ) (at : ℕ) (sides : List ℕ) : Type 0 where
   pub up : Upward (λ below s above. firm height climb (spans f) (around w i) s above) fl ce nx head ar₀ ar at
   pub low : ℕ

@@ -53,7 +53,7 @@ pub looked-drop : (st : Stand) (v : View) (ss : List Span) → v .drop ≡ true 
 looked-drop st v [] e = refl
 looked-drop st v (s ∷ ss) e = rw (seen-drop st (s .ceiling) (roof ss) v e) (looked-drop st v ss e)
 
--- nobody can step anywhere from where there is too little room to stand
+-- an agent can step nowhere from where there is too little room to stand
 pub looked-low : (st : Stand) (v : View) (ss : List Span) → st .roof < st .top + st .height → looked st v ss ≡ v
 looked-low st v [] l = refl
 looked-low st v (s ∷ ss) l = rw (seen-shut st (s .ceiling) (roof ss) v (omega arith)) (looked-low st v ss l)

@@ -45,7 +45,8 @@ abbrev pub Inside : List ℕ → Type 0
 Inside [] = Unit {0}
 Inside (k ∷ ks) = (k ≢ none) × Inside ks
 
--- Slot `r` is a cursor in a column: nothing of the spans `whole` that lies below it can be stepped to by anybody who needs the height `need` or more.
+-- Slot `r` is a cursor in a column: nothing of the spans `whole` that lies below it can be stepped to by an agent that
+-- needs the height `need` or more.
 pub record Cursor (k : Contents) (nexts : List ℕ) (need : ℕ) (whole : List Span) (r : ℕ) : Type 0 where
   pub rest : List ℕ
   pub chain : Chain nexts r rest

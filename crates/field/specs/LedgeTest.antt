@@ -1,4 +1,5 @@
--- The test for a ledge that the code carries out. That it is true exactly where `Ledge` holds is proved (`ledge-says`), so nobody need believe it.
+-- The test for a ledge that the code carries out. It is proved to be true exactly where `Ledge` holds (proofs/LedgeSays.antt), so it need not be read
+-- to know what the filter does.
 use mathlib.Core.Bool.{Bool, true, false, not, _||_, cond}
 use mathlib.Core.List.{List, [], _∷_, foldl}
 use Prim.Native.Nat.{ℕ, _+_, min, max}

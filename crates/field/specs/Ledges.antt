@@ -8,7 +8,7 @@ use Rattle.field.specs.Slots.{none}
 use Rattle.field.specs.Stretches.{In}
 use Rattle.field.specs.Walkable.{roof}
 
--- where somebody stands, and what he needs: F, the ceiling of a span; C, the floor above it; the walkable height; the climb
+-- where an agent stands, and what it needs: F, the ceiling of a span; C, the floor above it; the walkable height; the climb
 pub record Stand : Type 0 where
   pub top : ℕ
   pub roof : ℕ

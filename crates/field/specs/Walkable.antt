@@ -1,4 +1,4 @@
--- What a span is to somebody who stands on it: whether it is walkable, and what is above (docs/RULES.md, "Numbers" and "Filters, in order").
+-- What a span is to an agent that stands on it: whether it is walkable, and what is above (docs/RULES.md, "Numbers" and "Filters, in order").
 use mathlib.Core.Bool.{Bool, not}
 use mathlib.Core.List.{List, [], _∷_}
 use Prim.Native.Nat.{ℕ}

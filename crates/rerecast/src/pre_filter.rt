@@ -153,7 +153,7 @@ pub fn filter_low_hanging_walkable_obstacles(
 
 // ---- ledges
 
-// Where somebody stands: the ceiling of a span and the floor above it, with the walkable height and the climb.
+// Where an agent stands: the ceiling of a span and the floor above it, with the walkable height and the climb.
 struct Stand {
     top: u16,
     roof: u16,

@@ -1,4 +1,4 @@
--- `clear_inner` meets its contract: what is left of the column ends as the whole would, and a cursor in each column beside serves whoever stands there.
+-- `clear_inner` meets its contract: what is left of the column ends as the whole would, and a cursor in each column beside serves an agent that stands there.
 use Prim.Native.Nat.{ℕ, _<_, _≤_}
 use mathlib.Core.Path.{_≡_, sym, ap, subst, _∙_}
 use mathlib.Core.List.{List, map}
