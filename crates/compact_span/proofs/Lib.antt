@@ -1,0 +1,5 @@
+pub mod Base64
+pub mod Bits
+pub mod Links
+pub mod Answers
+pub mod Tried
