@@ -6,10 +6,11 @@ use lib.Dec.{ltb}
 use lib.ListN.{length, getD, set}
 use Rattle.compact_cell.specs.declared.CompactCell.{CompactCell}
 
+-- a cell from its two fields
 abbrev pub cellOf : ℕ → ℕ → CompactCell
 cellOf i n = record { index = i; count = n }
 
--- one more; 255 stays
+-- the count with one more span; 255 stays
 abbrev pub countAfter : ℕ → ℕ
 countAfter n = min (n + 1) 255
 
@@ -19,8 +20,8 @@ raisedCell c = cellOf (c .index) (countAfter (c .count))
 
 -- whether a place is a cell of the slices
 abbrev pub isCell : List ℕ → List ℕ → ℕ → Bool
-isCell indices counts c = ltb c (length indices) && ltb c (length counts)
+isCell indices counts p = ltb p (length indices) && ltb p (length counts)
 
--- all counts, with the one at a place raised; elsewhere than at a cell nothing changes
+-- all counts, with the one at a place raised; a place that is no cell changes nothing
 abbrev pub raisedCounts : List ℕ → List ℕ → ℕ → List ℕ
-raisedCounts indices counts c = cond (isCell indices counts c) (set counts c (countAfter (getD counts c 0))) counts
+raisedCounts indices counts p = cond (isCell indices counts p) (set counts p (countAfter (getD counts p 0))) counts

@@ -26,4 +26,4 @@ raiseSays n = cond (ltb n 255) (just 0) (just 11)
 
 -- the same of the cell at a place, which the slices must be long enough for (reply 4)
 abbrev pub raiseAtSays : List ℕ → List ℕ → ℕ → Said
-raiseAtSays indices counts c = cond (isCell indices counts c) (raiseSays (getD counts c 0)) (just 4)
+raiseAtSays indices counts p = cond (isCell indices counts p) (raiseSays (getD counts p 0)) (just 4)

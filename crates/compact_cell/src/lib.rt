@@ -16,7 +16,7 @@ pub struct IndexRange {
     pub end: usize,
 }
 
-// The answer where a cell's count is raised.
+// The answer where a cell's count is raised: `Full` is reply 11.
 pub enum Raised {
     Yes,
     Full,
@@ -28,13 +28,14 @@ pub struct RaisedCell {
     pub reply: Raised,
 }
 
-// The answer where the cell stands at a place of lent slices.
+// The answer where the cell stands at a place of lent slices: `NoCell` is reply 4.
 pub enum RaisedAt {
     Cell(Raised),
     NoCell,
 }
 
 impl CompactCell {
+    // The most spans that a column may have.
     pub const MAX_COUNT: u8 = 255;
 
     pub fn new(index: u32, count: u8) -> Self
@@ -73,6 +74,7 @@ impl CompactCell {
         }
     }
 
+    // Where the cell's spans stand. The sum can't overflow: both numbers are far below the range of usize.
     pub fn index_range(self) -> IndexRange
         ensures { λ r. ⌜ (r .start ≡ self .index) × (r .end ≡ self .index + self .count) ⌝ }
     {
@@ -83,7 +85,7 @@ impl CompactCell {
         }
     }
 
-    // One more span in a lent cell.
+    // One more span in a lent cell: at the largest count it stays, with reply 11.
     pub fn inc_count(&mut self) -> Raised
         ensures { λ r. ⌜ (now (self .exit) ≡ raisedCell (now (self .entry))) × (saidOf r ≡ raiseSays (now (self .entry) .count)) ⌝ }
     {
@@ -102,14 +104,14 @@ impl CompactCell {
     }
 }
 
-// The count with one more span: the largest stays.
+// The count with one more span; the largest stays.
 fn next_count(count: u8) -> u8
     ensures { λ r. ⌜ r ≡ countAfter count ⌝ }
 {
     if count < CompactCell::MAX_COUNT {
         count + 1
     } else {
-        count
+        CompactCell::MAX_COUNT
     }
 }
 
@@ -124,9 +126,10 @@ fn reply_for(count: u8) -> Raised
     }
 }
 
-// One more span in the cell at a place of the lent slices.
+// One more span in the cell at a place of the lent slices: refused (4) past either of them.
 pub fn raise_at(indices: &[u32], counts: &mut [u8], place: usize) -> RaisedAt
-    ensures { λ r. ⌜ (now (counts .exit) ≡ raisedCounts (now (indices .entry)) (now (counts .entry)) place) × (saidOfAt r ≡ raiseAtSays (now (indices .entry)) (now (counts .entry)) place) ⌝ }
+    ensures { λ r. ⌜ now (counts .exit) ≡ raisedCounts (now (indices .entry)) (now (counts .entry)) place ⌝ }
+    ensures { λ r. ⌜ saidOfAt r ≡ raiseAtSays (now (indices .entry)) (now (counts .entry)) place ⌝ }
 {
     if indices.len() <= place {
         return RaisedAt::NoCell;

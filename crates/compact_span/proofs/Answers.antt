@@ -50,7 +50,8 @@ con-one con.Refused (con.Link m) e = absurd (never (sym e) refl refl)
 con-one con.Refused con.Refused e = refl
 
 -- the answers of accepted calls
-pub set-con-answers : (s : CompactSpan) (d : ℕ) (l : Link) (r : Linked) → d ≤ 3 → tooHigh l ≡ false → saidOfLinked r ≡ setConSays s d l → r ≡ linked.Set (withLink s d (numberOf l))
+pub set-con-answers : (s : CompactSpan) (d : ℕ) (l : Link) (r : Linked) → d ≤ 3 → tooHigh l ≡ false
+    → saidOfLinked r ≡ setConSays s d l → r ≡ linked.Set (withLink s d (numberOf l))
 set-con-answers s d l r hd hl e = linked-one r (linked.Set (withLink s d (numberOf l))) (simp (le-ltb 3 d hd, hl) at e)
 
 pub con-answers : (s : CompactSpan) (d : ℕ) (r : Con) → d ≤ 3 → saidOfCon r ≡ conSays s d → r ≡ con.Link (linkOf (linkAt s d))

@@ -86,5 +86,6 @@ set-small (l ∷ ls) s (suc d) v h (suc i) = set-small ls (λ i. s (suc i)) d v 
 pub held-is : (l : ℕ) → l < 64 → held l ≡ l
 held-is l h = omega arith
 
-pub word-held : (h a b c d : ℕ) → a < 64 → b < 64 → c < 64 → d < 64 → word h (held a ∷ held b ∷ held c ∷ held d ∷ []) ≡ word h (a ∷ b ∷ c ∷ d ∷ [])
+pub word-held : (h a b c d : ℕ) → a < 64 → b < 64 → c < 64 → d < 64
+    → word h (held a ∷ held b ∷ held c ∷ held d ∷ []) ≡ word h (a ∷ b ∷ c ∷ d ∷ [])
 word-held h a b c d ha hb hc hd = rw (held-is a ha, held-is b hb, held-is c hc, held-is d hd)

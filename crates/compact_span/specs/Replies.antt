@@ -42,7 +42,7 @@ abbrev pub saidOfCon : Con → Said
 saidOfCon (con.Link l) = linkSaid l
 saidOfCon con.Refused = just 13
 
--- an empty link is always allowed, and a layer up to 62
+-- whether a link's layer is above 62; an empty link has none
 abbrev pub tooHigh : Link → Bool
 tooHigh Empty = false
 tooHigh (To l) = ltb 62 l

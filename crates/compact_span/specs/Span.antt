@@ -4,6 +4,7 @@ use lib.ListN.{getD, set}
 use Rattle.compact_span.specs.declared.CompactSpan.{CompactSpan}
 use Rattle.compact_span.specs.Word.{word, links, heightOf, noLinks}
 
+-- a span from its two fields
 abbrev pub spanOf : ℕ → ℕ → CompactSpan
 spanOf y n = record { y = y; «data» = n }
 

@@ -17,24 +17,26 @@ pub enum Link {
     To(u8),
 }
 
-// The answer of `set_con`.
+// The answer of `set_con`: `Refused` is reply 13.
 pub enum Linked {
     Set(CompactSpan),
     Refused,
 }
 
-// The answer of `con`.
+// The answer of `con`: `Refused` is reply 13.
 pub enum Con {
     Link(Link),
     Refused,
 }
 
 impl CompactSpan {
+    // The largest height that the word can hold.
     pub const MAX_HEIGHT: u8 = 255;
 
     // The mark of an empty link.
     pub const NOT_CONNECTED: u8 = 63;
 
+    // Directions are 0 to 3.
     const LAST_DIRECTION: u8 = 3;
 
     // A span with no links.
@@ -105,6 +107,7 @@ impl CompactSpan {
         }
     }
 
+    // The link of a direction: refused (13) above 3.
     pub fn con(self, dir: u8) -> Con
         ensures { λ r. ⌜ saidOfCon r ≡ conSays self dir ⌝ }
     {
@@ -119,6 +122,7 @@ impl CompactSpan {
         Con::Link(Link::To(number as u8))
     }
 
+    // The span with the link of a direction changed: refused (13) above direction 3 or layer 62.
     pub fn set_con(self, dir: u8, link: Link) -> Linked
         ensures { λ r. ⌜ saidOfLinked r ≡ setConSays self dir link ⌝ }
     {

@@ -1,15 +1,25 @@
--- `raise_at` meets its contract: its tests are the rule's, and `raise` gives the count and the answer.
+-- `raise_at` meets its contract: its tests say whether the place is a cell, and `raise` gives the count and the answer.
 use mathlib.Core.Path.{refl}
+use Prim.Native.Nat.{_≤_, _<_}
+use native.Mathlib.Omega.{arith}
 use borrow.Author.Needs.{needs}
 use borrow.Author.Tests.{lt-ltb, le-ltb}
+use lib.ListN.{length}
 use Rattle.compact_cell.proofs.raise_at.Statement.{statement}
 use Rattle.compact_cell.proofs.raise_at.Tie as tie
 
 returns : tie.Need-returns
-returns c = simp (le-ltb _ _ (c .if1 .taken)) (refl, refl)
+returns c =
+    let a = c .before .before .before .args in
+    let past : length (a .indices .now) ≤ a .place = omega arith in
+    simp (le-ltb _ _ past) (refl, refl)
 
 returns-2 : tie.Need-returns-2
-returns-2 c = simp (lt-ltb _ _ (c .before .if1 .left), le-ltb _ _ (c .if2 .taken)) (refl, refl)
+returns-2 c =
+    let a = c .before .before .before .before .args in
+    let within : a .place < length (a .indices .now) = omega arith in
+    let past : length (a .counts .now) ≤ a .place = omega arith in
+    simp (lt-ltb _ _ within, le-ltb _ _ past) (refl, refl)
 
 mul-t8 : tie.Need-mul-t8
 mul-t8 c = search needs
@@ -32,7 +42,8 @@ same-length c = search needs
 returns-3 : tie.Need-returns-3
 returns-3 c =
     let m = c .before .before .before .before in
-    simp (lt-ltb _ _ (m .before .if1 .left), lt-ltb _ _ (m .if2 .left), c .before .raise .ensures .0, c .before .raise .ensures .1) (refl, refl)
+    let done = c .before .raise .ensures in
+    simp (lt-ltb _ _ (m .before .if1 .left), lt-ltb _ _ (m .if2 .left), done .0, done .1) (refl, refl)
 
 pub raise-at-spec : {M : Type 1} → statement M
 raise-at-spec =
