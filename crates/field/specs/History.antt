@@ -1,0 +1,70 @@
+-- Calls one after another on one grid and one store, from a fresh field on, and the spans that they put into it.
+use mathlib.Core.Path.{_≡_}
+use mathlib.Core.Bool.{cond}
+use mathlib.Core.List.{List, [], _∷_, _++_}
+use Prim.Native.Nat.{ℕ, _+_, _*_}
+use lib.ListN.{length}
+use lib.Dec.{eqb}
+use Rattle.replies.specs.Said.{Said, just}
+use Rattle.grid.specs.declared.Grid.{Grid}
+use Rattle.grid.specs.Grid.{width}
+use Rattle.field.specs.declared.Span.{Span}
+use Rattle.field.specs.Spans.{Range, range}
+use Rattle.field.specs.Slots.{Slots}
+use Rattle.field.specs.Field.{Field, ranges, lengthIn}
+use Rattle.field.specs.Stretches.{In, Shares}
+use Rattle.field.specs.Store.{Store, Outcome}
+use Rattle.field.specs.Calls.{made, Freshened, Added}
+
+-- a call that changes a field, with all that it is given besides the grid and the store
+pub data Call : Type 0 where
+  addSpan : (x z : ℕ) → Span → (threshold : ℕ) → Call
+
+-- what its contract says of its outcome
+abbrev pub Does : Grid → Call → Store → Outcome → Type 0
+Does g (addSpan x z new threshold) s = Added g x z new threshold s
+
+-- a call that was made, and what it answered
+pub record Step : Type 0 where
+  pub call : Call
+  pub said : Said
+
+-- The calls made from store `s` on, the last one first, each on the store that the one before it left.
+pub data History (g : Grid) (s : Store) : List Step → Store → Type 0 where
+  start : History g s [] s
+  then : {steps : List Step} {t : Store} → History g s steps t → (call : Call) (o : Outcome) → Does g call t o → History g s (record { call = call; said = o .said } ∷ steps) (o .store)
+
+-- the store as an accepted call for a fresh field left it, with a mark for each slot
+pub record Begins (g : Grid) (s : Store) : Type 0 where
+  pub heads₀ : List ℕ
+  pub slots₀ : Slots
+  pub fresh : Freshened g heads₀ slots₀ (made (just 0) (s .heads) (s .slots))
+  pub marked : length (s .marks) ≡ length (s .slots .nexts)
+
+-- ---- what was accepted
+
+-- a span that a call put into the field, and the column
+pub record Placed : Type 0 where
+  pub column : ℕ
+  pub span : Span
+
+-- those of one call, the last first
+abbrev pub placedBy : Grid → Call → Said → List Placed
+placedBy g (addSpan x z new threshold) said = cond (eqb (said .number) 0) (record { column = x + z * width g; span = new } ∷ []) []
+
+-- the spans in column `i`
+abbrev pub inColumn : ℕ → List Placed → List Span
+inColumn i [] = []
+inColumn i (p ∷ ps) = cond (eqb (p .column) i) (p .span ∷ inColumn i ps) (inColumn i ps)
+
+-- the spans that were accepted in column `i`, the last first
+abbrev pub acceptedIn : Grid → ℕ → List Step → List Span
+acceptedIn g i [] = []
+acceptedIn g i (c ∷ cs) = inColumn i (placedBy g (c .call) (c .said)) ++ acceptedIn g i cs
+
+-- ---- no room
+
+-- a span shares no height with column `i` of the field, and the spans of all its columns together fill `n` slots
+pub record Full (f : Field) (i : ℕ) (new : Span) (n : ℕ) : Type 0 where
+  pub apart : (r : Range) → In r (ranges f i) → Shares (range new) r → ⊥
+  pub fill : lengthIn (f .columns) ≡ n

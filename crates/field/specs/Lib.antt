@@ -1,0 +1,15 @@
+pub mod Spans
+pub mod Slots
+pub mod Field
+pub mod Stretches
+pub mod Store
+pub mod Calls
+pub mod History
+pub mod Inner
+pub mod Marks
+pub mod Walkable
+pub mod Beside
+pub mod Ledges
+pub mod LedgeTest
+pub mod Filters
+pub mod FilterCode

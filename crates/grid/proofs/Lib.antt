@@ -1,0 +1,7 @@
+pub mod Tests
+pub mod Cells
+pub mod Outside
+pub mod Answers
+pub mod Accepted
+pub mod Finite
+pub mod Tried

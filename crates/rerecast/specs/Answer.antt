@@ -1,0 +1,16 @@
+-- What an answer says: the number and the values of the rules for each.
+use mathlib.Core.List.{[], _∷_}
+use Rattle.replies.specs.Said.{Said, real, say, just}
+use Rattle.rerecast.specs.declared.Reply.{Reply}
+use Rattle.rerecast.specs.declared.Reply.the-variants.{Accepted, BadNumber, BoxOrder, GridSize, Slices, Unsound, OffGrid, Inverted, NoSlot}
+
+abbrev pub saidOf : Reply → Said
+saidOf Accepted = just 0
+saidOf (BadNumber x) = say 1 (real x ∷ [])
+saidOf BoxOrder = just 2
+saidOf (GridSize w h) = say 3 (real w ∷ real h ∷ [])
+saidOf Slices = just 4
+saidOf Unsound = just 14
+saidOf OffGrid = just 8
+saidOf Inverted = just 9
+saidOf NoSlot = just 5
