@@ -14,6 +14,7 @@ use Rattle.grid.specs.declared.GridReply.{GridReply}
 use Rattle.grid.specs.declared.GridReply.the-variants.{Fine, BadNumber, BoxOrder, GridSize}
 use Rattle.grid.proofs.Answers.{said-once}
 use Rattle.grid.proofs.Cells.{width-le, height-le, size-facts}
+use Rattle.grid.proofs.Replies.{Inside, all-pass, says-zero}
 use Rattle.ops.proofs.Tests.{none-of}
 
 -- a corner inside its limits
@@ -49,27 +50,19 @@ fails : (b : Bool) (next : Said) (n : ℕ) (vs : List Value) → cond b (say (su
 fails true next n vs e = absurd (omega (arith, e))
 fails false next n vs e = refl
 
--- every number is inside its limits
-abbrev Inside : List Tested → Type 0
-Inside [] = Unit {0}
-Inside (t ∷ ts) = (t .inside ≡ true) × Inside ts
-
-all-inside : (ts : List Tested) (next : Said) → firstOutside ts next .number ≡ 0 → Inside ts × (firstOutside ts next ≡ next)
+all-inside : (ts : List Tested) (next : Said) → firstOutside ts next .number ≡ 0 → Inside ts
 unfolding firstOutside
-all-inside [] next e = (tt, refl)
+all-inside [] next e = tt
 all-inside (t ∷ ts) next e =
     let h = passes (t .inside) (firstOutside ts next) 0 (real (t .number) ∷ []) e in
-    let r = all-inside ts next (rw h at e) in
-    ((h, r .0), rw h (r .1))
+    (h, all-inside ts next (rw h at e))
 
 pub accepted : (g : Grid) → gridSays g .number ≡ 0 → Accepted g
 unfolding gridSays sizeSays boxAbove
 accepted g e =
-    let numbered = all-inside (numbers g) (cond (boxAbove g) (just 2) (sizeSays g)) e in
-    let ordered : boxAbove g ≡ false = fails (boxAbove g) (sizeSays g) 1 [] (rw (numbered .1) at e) in
-    let e2 : sizeSays g .number ≡ 0 = rw (numbered .1, ordered) at e in
-    let fit : sized g ≡ true = passes (sized g) _ 2 _ e2 in
-    let min = numbered .0 in
+    let min = all-inside (numbers g) (cond (boxAbove g) (just 2) (sizeSays g)) e in
+    let ordered : boxAbove g ≡ false = fails (boxAbove g) (sizeSays g) 1 [] (rw (all-pass (numbers g) _ min) at e) in
+    let fit : sized g ≡ true = passes (sized g) _ 2 _ (rw (all-pass (numbers g) _ min, ordered) at e) in
     let max = min .1 .1 .1 in
     let cell = max .1 .1 .1 in
     let box = none-of (lt (g .max .x) (g .min .x)) _ ordered in
@@ -82,7 +75,7 @@ accepted g e =
       high = counts .1 .0;
       high-le = height-le g;
       columns-le = counts .1 .1;
-      said = numbered .1 ∙ rw (ordered, fit);
+      said = says-zero g min ordered fit;
       least = record { x-ok = min .0; y-ok = min .1 .0; z-ok = min .1 .1 .0 };
       greatest = record { x-ok = max .0; y-ok = max .1 .0; z-ok = max .1 .1 .0 };
       size-ok = cell .0;

@@ -24,8 +24,11 @@ module _ (g : Grid) where
   pub min-outside : {r : Limits} {x : Float} → Finds r (corner (g .min)) → r ≡ Outside x → Finds (Outside x) (numbers g)
   min-outside found e next = sym (in-parts next ∙ outside (corner (g .min)) found e _)
 
-  pub max-outside : {r s : Limits} {x : Float} → Finds r (corner (g .min)) → r ≡ Inside → Finds s (corner (g .max)) → s ≡ Outside x → Finds (Outside x) (numbers g)
+  pub max-outside : {r s : Limits} {x : Float} → Finds r (corner (g .min)) → r ≡ Inside → Finds s (corner (g .max)) → s ≡ Outside x
+      → Finds (Outside x) (numbers g)
   max-outside found e found′ e′ next = sym (in-parts next ∙ inside (corner (g .min)) found e _ ∙ outside (corner (g .max)) found′ e′ _)
 
-  pub both-inside : {r s : Limits} → Finds r (corner (g .min)) → r ≡ Inside → Finds s (corner (g .max)) → s ≡ Inside → (next : Said) → firstOutside (numbers g) next ≡ firstOutside (sizes g) next
-  both-inside found e found′ e′ next = in-parts next ∙ inside (corner (g .min)) found e _ ∙ inside (corner (g .max)) found′ e′ _
+  pub both-inside : {r s : Limits} (t : Limits) → Finds r (corner (g .min)) → r ≡ Inside → Finds s (corner (g .max)) → s ≡ Inside → Finds t (sizes g)
+      → Finds t (numbers g)
+  both-inside t found e found′ e′ found″ next =
+      found″ next ∙ sym (in-parts next ∙ inside (corner (g .min)) found e _ ∙ inside (corner (g .max)) found′ e′ _)

@@ -1,4 +1,5 @@
--- The limits of a grid's numbers, its width and height in cells, and what its tests say: replies 1, 2 and 3 (the rules, "Numbers" and "Numbered replies"). Definitions only.
+-- The limits of a grid's numbers, its width and height in cells, and what its tests say: replies 1, 2 and 3.
+-- (The rules, "Numbers" and "Numbered replies".) Definitions only.
 use Prim.Native.Nat.{ℕ, _*_}
 use mathlib.Core.Bool.{Bool, true, false, _&&_, _||_, cond}
 use mathlib.Core.List.{List, [], _∷_, _++_}
@@ -94,8 +95,11 @@ boxAbove g = lt (g .max .x) (g .min .x) || (lt (g .max .y) (g .min .y) || lt (g 
 
 -- the width and the height, or reply 3 with both floats
 unfoldable pub sizeSays : Grid → Said
-sizeSays g = cond (sized g) (say 0 (whole (width g) ∷ whole (height g) ∷ [])) (say 3 (real (widthFloat g) ∷ real (heightFloat g) ∷ []))
+sizeSays g =
+    cond (sized g)
+    (say 0 (whole (width g) ∷ whole (height g) ∷ []))
+    (say 3 (real (widthFloat g) ∷ real (heightFloat g) ∷ []))
 
--- 1, then 2, then 3
+-- reply 1, then 2, then 3
 unfoldable pub gridSays : Grid → Said
 gridSays g = firstOutside (numbers g) (cond (boxAbove g) (just 2) (sizeSays g))

@@ -1,7 +1,7 @@
 // The grid's parameters, the tests that every call with a grid makes of them first, and the grid's size in cells.
 ghost use mathlib.Core.Path.{_≡_};
 ghost use Prim.Native.Nat.{_≤_};
-ghost use Rattle.grid.specs.Grid.{coordinateOk, cellOk, across, cells, corner, numbers, boxAbove, sizeOk, sizeSays, gridSays};
+ghost use Rattle.grid.specs.Grid.{coordinateOk, cellOk, across, cells, corner, sizes, numbers, boxAbove, sizeOk, sizeSays, gridSays};
 ghost use Rattle.grid.specs.Answer.{saidOf, Finds};
 
 pub struct Corner {
@@ -68,6 +68,18 @@ fn corner_limits(p: Corner) -> Limits
     Limits::Inside
 }
 
+fn cell_limits(g: Grid) -> Limits
+    ensures { λ r. ⌜ Finds r (sizes g) ⌝ }
+{
+    if !cell(g.cell_size) {
+        return Limits::Outside(g.cell_size);
+    }
+    if !cell(g.cell_height) {
+        return Limits::Outside(g.cell_height);
+    }
+    Limits::Inside
+}
+
 fn grid_limits(g: Grid) -> Limits
     ensures { λ r. ⌜ Finds r (numbers g) ⌝ }
 {
@@ -77,13 +89,7 @@ fn grid_limits(g: Grid) -> Limits
     if let Limits::Outside(x) = corner_limits(g.max) {
         return Limits::Outside(x);
     }
-    if !cell(g.cell_size) {
-        return Limits::Outside(g.cell_size);
-    }
-    if !cell(g.cell_height) {
-        return Limits::Outside(g.cell_height);
-    }
-    Limits::Inside
+    cell_limits(g)
 }
 
 // Is the least corner above the greatest on some axis?

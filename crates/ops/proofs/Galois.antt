@@ -81,3 +81,17 @@ not-negative m e p = omega (arith, ltb-false 0 (m * up e + 0 * down e) (not-true
 
 pub not-positive : (m : ℕ) (e : ℤ) → le (fin false m e) (exactly (pos 0)) ≡ true → m * up e ≤ 0
 not-positive m e p = omega (arith, zero-mul (down e), ltb-false (0 * down e) (m * up e) (not-true _ (sym (le-whole false m e (pos 0)) ∙ p)))
+
+-- ---- two whole numbers
+
+pub exact-order : (a b : ℤ) → leZ a b ≡ le (exactly a) (exactly b)
+exact-order (pos a) (pos b) =
+    leb-ltb a b (b * 1) (a * 1) (λ h. omega (arith, mul-one a, mul-one b)) (λ h. omega (arith, mul-one a, mul-one b))
+    ∙ sym (whole-le false b (pos 0) (pos a))
+exact-order (pos a) (negsuc b) =
+    ap not (sym (lt-ltb 0 (suc b * 1 + a * 1) (omega (arith, mul-one (suc b)))))
+    ∙ sym (whole-le true (suc b) (pos 0) (pos a))
+exact-order (negsuc a) (pos b) = sym (whole-le false b (pos 0) (negsuc a))
+exact-order (negsuc a) (negsuc b) =
+    leb-ltb b a (suc a * 1) (suc b * 1) (λ h. omega (arith, mul-one (suc a), mul-one (suc b))) (λ h. omega (arith, mul-one (suc a), mul-one (suc b)))
+    ∙ sym (whole-le true (suc b) (pos 0) (negsuc a))

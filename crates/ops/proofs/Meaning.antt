@@ -12,8 +12,12 @@ use Rattle.ops.specs.Order.{exactly}
 use Rattle.ops.proofs.Integers.{under, not-under, in-range, same-below, same-above}
 use Rattle.ops.proofs.Fractions.{nothing-left}
 use Rattle.ops.proofs.Order.{whole-le, le-whole}
-use Rattle.ops.proofs.Galois.{floor-pos, floor-neg, ceil-pos, ceil-neg, under-high, under-low, high-under, low-under, not-negative, not-positive}
+use Rattle.ops.proofs.Galois.{floor-pos, floor-neg, ceil-pos, ceil-neg, under-high, under-low, high-under, low-under, not-negative, not-positive, exact-order}
 use Rattle.ops.proofs.Rounding.{floor-in, ceil-in}
+
+-- A whole number as a float keeps its place among the others.
+pub exactly-order : (a b : ℤ) → leZ a b ≡ le (exactly a) (exactly b)
+exactly-order a b = exact-order a b
 
 -- The floor is the greatest whole number that is not above x, held to the range: a number of the range is at most the floor exactly where it is at most x.
 -- (The lowest is at most every result, whatever x is.)

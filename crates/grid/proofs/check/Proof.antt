@@ -35,7 +35,8 @@ returns-3 : tie.Need-returns-3
 unfolding gridSays
 returns-3 c =
     let d = c .before .before .before in
-    rw (inside (numbers _) (d .before .before .grid-limits .ensures) (d .enum-told .given .1), ← (c .before .before .box-above .ensures), c .before .if1 .left) (c .size .ensures)
+    rw (inside (numbers _) (d .before .before .grid-limits .ensures) (d .enum-told .given .1))
+    (rw (← (c .before .before .box-above .ensures), c .before .if1 .left) (c .size .ensures))
 
 pub check-spec : {M : Type 1} → statement M
 check-spec =

@@ -40,7 +40,8 @@ returns-2 : tie.Need-returns-2
 unfolding sizeSays
 returns-2 c =
     let d = c .before .before in
-    rw (d .before .before .before .side-length .ensures, d .before .before .side-length2 .ensures, ← (wide d), ← (high d), ← (c .before .size-ok .ensures), c .if1 .left)
+    rw (d .before .before .before .side-length .ensures, d .before .before .side-length2 .ensures)
+    (rw (← (wide d), ← (high d), ← (c .before .size-ok .ensures), c .if1 .left))
 
 pub size-spec : {M : Type 1} → statement M
 size-spec =

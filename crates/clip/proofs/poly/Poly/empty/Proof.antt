@@ -1,0 +1,12 @@
+-- `clip::poly::Poly::empty` meets its contract.
+use mathlib.Core.Path.{refl}
+use lib.Ieee.{ofBits}
+use Rattle.clip.proofs.poly.Poly.empty.Statement.{statement}
+use Rattle.clip.proofs.poly.Poly.empty.Tie as tie
+
+returns : tie.Need-returns
+unfolding ofBits
+returns c = refl
+
+pub empty-spec : {M : Type 1} → statement M
+empty-spec = tie.close (tie.spec returns)
