@@ -45,3 +45,4 @@ pub mod ReadingBack
 pub mod Layers
 pub mod Joining
 pub mod Sides
+pub mod CompactOne

@@ -1,10 +1,11 @@
 -- What `into_compact` answers and leaves (docs/RULES.md, "Compact result").
 use mathlib.Core.Path.{_≡_}
-use mathlib.Core.Bool.{Bool}
+use mathlib.Core.Bool.{Bool, cond}
 use mathlib.Core.List.{List, [], _∷_, map, flatten}
-use Prim.Native.Nat.{ℕ, _<_, _≤_}
+use Prim.Native.Nat.{ℕ, _*_, _<_, _≤_}
 use lib.ListN.{length, getD, take}
 use lib.Seq.{sets}
+use lib.Dec.{eqb}
 use lib.IntN.{pos}
 use lib.Ieee.{Float, binary32, add, mul, ofInt}
 use Rattle.replies.specs.Said.{Said, whole, real, say, just, Asks}
@@ -62,12 +63,9 @@ complete pass w h columns t =
     (rows (sets (t .rows .ys) 0 (map (λ o. o .y) (flatten cs))) (sets (t .rows .words) 0 (words pass w h cs))
     (sets (t .rows .areas) 0 (map (λ o. o .area) (flatten cs))))
 
--- the reply's box: its greatest y is raised by walkable height × cell height, one rounding for each operation
-abbrev pub raisedTop : Grid → ℕ → Float
-raisedTop g tall = add binary32 (g .max .y) (mul binary32 (ofInt binary32 (pos tall)) (g .«cell_height»))
-
 -- ---- the call
 
+-- what it answers and leaves
 pub record Outcome : Type 0 where
   pub said : Said
   pub store : Store
@@ -76,25 +74,31 @@ pub record Outcome : Type 0 where
 abbrev pub outcome : Said → Store → Result → Outcome
 outcome said s t = record { said = said; store = s; result = t }
 
--- The result is complete. 12, with the largest layer, where some open space misses a link by it, and else 0; both carry the raised y.
-abbrev pub Completes : Grid → ℕ → ℕ → List (List Span) → Store → Result → Outcome → Type 0
-Completes g tall climb cols s t =
-    let pass = passes tall climb in
-    let t′ = complete pass (width g) (height g) cols t in
-    let layer = largestMissed pass (width g) (height g) (cells cols) in
-    Asks (layer ≡ 0) (outcome (say 12 (whole layer ∷ real (raisedTop g tall) ∷ [])) (cleared s) t′)
-    (λ o. o ≡ outcome (say 0 (real (raisedTop g tall) ∷ [])) (cleared s) t′)
+-- an end of the call that leaves the lent result as it was
+abbrev pub keeping : Result → Said → Store → Outcome
+keeping t said s = outcome said s t
 
--- 11, then 15, then 12, of the field that the store holds
-abbrev pub Compacts : Grid → ℕ → ℕ → Store → Result → Outcome → Type 0
-Compacts g tall climb s t o =
+-- the reply's box: its greatest y, raised by walkable height × cell height, one rounding for each operation
+abbrev pub raisedTop : Grid → ℕ → Float
+raisedTop g tall = add binary32 (g .max .y) (mul binary32 (ofInt binary32 (pos tall)) (g .«cell_height»))
+
+-- a complete result: 12, with the largest layer missed, where there is one, and else 0; both carry the raised y
+abbrev pub completeSays : ℕ → Float → Said
+completeSays layer top = cond (eqb layer 0) (say 0 (real top ∷ [])) (say 12 (whole layer ∷ real top ∷ []))
+
+-- the field that the store holds on a grid of w × h: 11, then 15, then 12 or 0
+abbrev pub Compacts : ℕ → ℕ → Float → ℕ → ℕ → Store → Result → Outcome → Type 0
+Compacts w h top tall climb s t o =
     (f : Field)
-    × Holds (take (columns g) (s .heads)) (s .slots) f
-    × Asks (Few (cells (columnsOf f))) (outcome (just 11) (cleared s) t)
-    (Asks (Room (length (flatten (cells (columnsOf f)))) (t .rows)) (outcome (just 15) (cleared s) t)
-    (Completes g tall climb (columnsOf f) s t)) o
+    × Holds (take (w * h) (s .heads)) (s .slots) f
+    × (let pass = passes tall climb in
+       let cs = cells (columnsOf f) in
+       Asks (Few cs) (keeping t (just 11) (cleared s))
+       (Asks (Room (length (flatten cs)) (t .rows)) (keeping t (just 15) (cleared s))
+       (λ o. o ≡ outcome (completeSays (largestMissed pass w h cs) top) (cleared s) (complete pass w h (columnsOf f) t)))
+       o)
 
 -- 1, 2, 3, 4, 14, then these
 abbrev pub Compacted : Grid → ℕ → ℕ → Store → Result → Outcome → Type 0
 Compacted g tall climb s t =
-    Admits (λ said s′. outcome said s′ t) g (Suiting (columns g) s t) s (Compacts g tall climb s t)
+    Admits (keeping t) g (Suiting (columns g) s t) s (Compacts (width g) (height g) (raisedTop g tall) tall climb s t)

@@ -1,3 +1,6 @@
 pub mod Told
 pub mod Admitted
 pub mod Answers
+pub mod Compacting
+pub mod Around
+pub mod CompactCall
