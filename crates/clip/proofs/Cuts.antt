@@ -1,17 +1,16 @@
 -- What a caller of `divide` knows: the counts tell the cut's reply, the parts stand in the arrays, and the arrays keep their lengths.
-use mathlib.Core.Path.{_≡_, refl, sym, ap, _∙_}
-use mathlib.Core.Bool.{Bool, true, false, not, _&&_, cond}
-use mathlib.Core.List.{List, [], _∷_}
-use Prim.Native.Nat.{ℕ, zero, suc, _+_, _≤_, _<_}
-use native.Mathlib.Nat.{zero-add}
+use mathlib.Core.Path.{_≡_, refl, ap, _∙_}
+use mathlib.Core.Bool.{Bool, true, false, not, cond}
+use mathlib.Core.List.{List}
+use Prim.Native.Nat.{ℕ, zero, suc, _≤_, _<_}
 use native.Mathlib.Omega.{arith}
 use lib.Dec.{leb}
 use lib.ListN.{length}
 use lib.Ieee.{Float}
-use borrow.Author.Tests.{le-leb, lt-leb, leb-true}
+use borrow.Author.Tests.{le-leb, lt-leb}
 use Rattle.grid.specs.declared.Corner.{Corner}
 use Rattle.clip.specs.declared.cut.Axis.{Axis}
-use Rattle.clip.specs.Cut.{Cut, parts, eighth, fitting, firstOf, secondOf, cutOf}
+use Rattle.clip.specs.Cut.{parts, eighth, fitting, firstOf, secondOf, cutOf}
 use Rattle.clip.specs.Arrays.{Arrays, polygonAt, written, half, Divided, countsOf, divided, divideOf}
 use Rattle.clip.proofs.Places.{Long, written-long, read-back}
 

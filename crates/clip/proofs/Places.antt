@@ -1,18 +1,18 @@
 -- Of vertices in arrays: what is written stands where it was written, all else is kept, and a polygon is read place by place.
-use mathlib.Core.Path.{_≡_, refl, sym, ap, _∙_}
+use mathlib.Core.Path.{_≡_, refl, sym, _∙_}
 use mathlib.Core.Logic.{_⊎_, inl, inr}
 use mathlib.Core.Bool.{Bool, _&&_}
 use mathlib.Core.List.{List, [], _∷_, _++_, map, map-append}
-use Prim.Native.Nat.{ℕ, zero, suc, _+_, _-_, _≤_, _<_}
-use native.Mathlib.Nat.{add-zero, add-suc, suc-add}
+use Prim.Native.Nat.{ℕ, zero, suc, _+_, _-_, _≤_, _<_, min}
+use native.Mathlib.Nat.{add-zero, add-suc, suc-add, min-eq-left}
 use native.Mathlib.Omega.{arith}
-use lib.ListN.{length, length-map, length-append, length-set, getD, set}
+use lib.ListN.{length, length-map, length-append, getD, set}
 use lib.Seq.{sets, length-sets, getD-set-same, getD-set-other}
 use lib.Ieee.{Float, nan}
 use Rattle.grid.specs.declared.Corner.{Corner}
 use Rattle.clip.specs.declared.frame.Frame.{Frame}
 use Rattle.clip.specs.Cut.{xOf, yOf, zOf}
-use Rattle.clip.specs.Arrays.{Arrays, numbersAt, vertexAt, polygonAt, written, Divided, countsOf, divided, grown}
+use Rattle.clip.specs.Arrays.{Arrays, numbersAt, vertexAt, polygonAt, written, Divided, grown}
 use Rattle.clip.specs.Work.{reachesOf, meetsOf}
 
 -- ---- a polygon from its i-th vertex on
@@ -109,6 +109,16 @@ ys-of a from n = coordinates yOf (a .ys) a (λ i. refl) from n
 
 pub zs-of : (a : Arrays) (from n : ℕ) → map zOf (polygonAt a from n) ≡ numbersAt (a .zs) from n
 zs-of a from n = coordinates zOf (a .zs) a (λ i. refl) from n
+
+-- the same for the first n, as `least_of` and `greatest_of` count them
+pub xs-first : (a : Arrays) (n : ℕ) → n ≤ 28 → numbersAt (a .xs) 0 (min n 28) ≡ map xOf (polygonAt a 0 n)
+xs-first a n h = rw (min-eq-left h) (sym (xs-of a 0 n))
+
+pub ys-first : (a : Arrays) (n : ℕ) → n ≤ 28 → numbersAt (a .ys) 0 (min n 28) ≡ map yOf (polygonAt a 0 n)
+ys-first a n h = rw (min-eq-left h) (sym (ys-of a 0 n))
+
+pub zs-first : (a : Arrays) (n : ℕ) → n ≤ 28 → numbersAt (a .zs) 0 (min n 28) ≡ map zOf (polygonAt a 0 n)
+zs-first a n h = rw (min-eq-left h) (sym (zs-of a 0 n))
 
 -- ---- more vertices in two steps
 pub grown-append : (to : ℕ) (d : Divided) (f f′ s s′ : List Corner) → grown to (grown to d f s) f′ s′ ≡ grown to d (f ++ f′) (s ++ s′)

@@ -1,6 +1,6 @@
 -- Of a snap: what is given after each of its tests, what an answer tells, and the heights of a span.
 use mathlib.Core.Path.{_≡_, refl, sym, ap, _∙_}
-use mathlib.Core.Bool.{Bool, true, false, _||_, cond}
+use mathlib.Core.Bool.{Bool, true, false, cond}
 use mathlib.Core.List.{List, [], _∷_}
 use Prim.Native.Nat.{ℕ, _+_, _≤_, _<_}
 use native.Mathlib.Omega.{arith}
@@ -8,10 +8,9 @@ use lib.Dec.{eqb}
 use lib.Ieee.{Float, lt, mul, binary32}
 use borrow.Author.Tests.{eq-eqb, ne-eqb, eqb-false}
 use Rattle.replies.specs.Said.{Said, Value, whole, real}
-use Rattle.ops.specs.Round.{floorTo, ceilTo}
-use Rattle.ops.specs.Order.{lesserOf, greaterOf}
+use Rattle.ops.specs.Round.{ceilTo}
+use Rattle.ops.specs.Order.{lesserOf}
 use Rattle.clip.specs.Cut.{nought}
-use Rattle.clip.specs.Slices.{heldTo}
 use Rattle.clip.specs.Snap.{low, high, outside, floorOf, ceilingOf, snapped, snapSays, saidOf}
 use Rattle.clip.specs.declared.heights.Snap.{Snap}
 use Rattle.clip.specs.declared.heights.Snap.the-variants.{Outside, TooHigh, Span}

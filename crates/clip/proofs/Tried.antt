@@ -2,7 +2,7 @@
 use mathlib.Core.Path.{_≡_, refl}
 use mathlib.Core.List.{List, [], _∷_}
 use Prim.Native.Nat.{ℕ}
-use lib.Ieee.{Float, binary32, ofBits, round, add, sub, mul, div, lt, le, ofInt, toSigned}
+use lib.Ieee.{binary32, ofBits, round, add, sub, mul, div, lt, le, ofInt, toSigned}
 use Rattle.ops.specs.Round.{floorTo, ceilTo}
 use Rattle.ops.specs.Order.{lesserOf, greaterOf}
 use Rattle.grid.specs.declared.Corner.{Corner}
@@ -24,8 +24,8 @@ abbrev eventsOf : Corner → ℕ → ℕ → List Corner → List Event
 eventsOf far width height vs = triangleEvents (frameOf (box far) width height) vs
 
 -- In turn:
--- box to (4, 8, 4), triangle (-2, 1, 0.5), (-0.5, 1, 0.5), (1.5, 1, 4.5), left of the grid: nothing for column (0, 0);
--- box to (4, 8, 5), triangle (9, 0, 8), (1 + 2^-23, 0, 2 - 2^-23), (0, 0, 0): three insertions, and then a cut would write an eighth vertex;
+-- box to (4, 8, 4), the triangle left of the grid whose corners are at x = -2, -0.5 and 1.5: nothing for column (0, 0);
+-- box to (4, 8, 5), corners (9, 0, 8), (1 + 2^-23, 0, 2 - 2^-23) and (0, 0, 0): three insertions, and then a cut would write an eighth vertex;
 -- box to (1, 131072, 1), a triangle at height 65,535: reply 7.
 pub worked : (eventsOf (corner 0x4080_0000 0x4100_0000 0x4080_0000) 4 4 (corner 0xc000_0000 0x3f80_0000 0x3f00_0000 ∷ corner 0xbf00_0000 0x3f80_0000 0x3f00_0000 ∷ corner 0x3fc0_0000 0x3f80_0000 0x4090_0000 ∷ [])
     ≡ insert 0 1 1 2 ∷ insert 0 2 1 2 ∷ insert 0 3 1 2 ∷ insert 1 3 1 2 ∷ [])

@@ -1,4 +1,5 @@
 -- Polygons in lent arrays of 28 numbers, one array to a coordinate, and what a cut leaves in them. Definitions only.
+-- A place past an array's end holds no number; no function here looks there.
 use Prim.Native.Nat.{ℕ, zero, suc, _+_, _≤_}
 use mathlib.Core.Logic.{_⊎_}
 use mathlib.Core.Bool.{Bool, not, cond}

@@ -1,4 +1,4 @@
--- The cut of a polygon, a list of vertices, along x or z (docs/RULES.md, "Triangles to spans"). Definitions only.
+-- The cut of a polygon, a list of vertices, along x or z (the rules, "Triangles to spans"). Definitions only.
 use Prim.Native.Nat.{ℕ}
 use mathlib.Core.Bool.{Bool, false, _&&_, cond, Bool·beq}
 use mathlib.Core.List.{List, [], _∷_, _++_}
@@ -41,6 +41,7 @@ crossingOf b a db da =
     record { x = toward s (b .x) (a .x); y = toward s (b .y) (a .y); z = toward s (b .z) (a .z) }
 
 -- ---- what the vertex a, with b before it, gives to the first part and to the second
+-- d ≥ 0 holds at both or at neither
 abbrev pub agree : Float → Float → Bool
 agree db da = Bool·beq (le nought da) (le nought db)
 
@@ -48,14 +49,12 @@ abbrev pub joining : Bool → Corner → List Corner
 joining joins v = cond joins (v ∷ []) []
 
 unfoldable pub toFirst : Corner → Corner → Float → Float → List Corner
-unfolding crossingOf
 toFirst b a db da = cond (agree db da) (joining (le nought da) a) (crossingOf b a db da ∷ joining (lt nought da) a)
 
 unfoldable pub toSecond : Corner → Corner → Float → Float → List Corner
-unfolding crossingOf
 toSecond b a db da = cond (agree db da) (joining (le da nought) a) (crossingOf b a db da ∷ joining (lt da nought) a)
 
--- ---- the round: each vertex gives in turn, the last vertex standing before the first. Without a vertex nothing is given
+-- ---- the round: each vertex a gives in turn, with b the vertex before it
 unfoldable pub onward : (Corner → Corner → List Corner) → Corner → List Corner → List Corner
 onward gives b [] = []
 onward gives b (a ∷ vs) = gives b a ++ onward gives a vs
@@ -64,8 +63,8 @@ abbrev pub lastOf : Corner → List Corner → Corner
 lastOf v [] = v
 lastOf v (w ∷ ws) = lastOf w ws
 
+-- before the first vertex stands the last; without a vertex nothing is given
 unfoldable pub around : (Corner → Corner → List Corner) → List Corner → List Corner
-unfolding onward
 around gives [] = []
 around gives (v ∷ vs) = onward gives (lastOf v vs) (v ∷ vs)
 
@@ -94,7 +93,6 @@ pub data Cut : Type 0 where
   eighth : Cut
 
 unfoldable pub cutOf : Axis → Float → List Corner → Cut
-unfolding around toFirst toSecond
 cutOf axis offset vs =
     cond (fitting (firstOf axis offset vs) && fitting (secondOf axis offset vs))
     (parts (firstOf axis offset vs) (secondOf axis offset vs))

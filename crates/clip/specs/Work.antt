@@ -16,7 +16,7 @@ use Rattle.clip.specs.Cut.{xOf, yOf, zOf, along, Cut, parts, eighth, cut
 use Rattle.clip.specs.Slices.{leastOf, greatestOf, cellOf, edgeOf, heldFirst, heldLast}
 use Rattle.clip.specs.Snap.{maxHeight, snapped}
 
--- a span from floor to ceiling into column x, z, in that order of numbers: x, z, floor, ceiling; or a stop with its reply's number
+-- an insertion with its x, z, floor and ceiling, or a stop with its reply's number
 pub data Event : Type 0 where
   insert : ℕ → ℕ → ℕ → ℕ → Event
   stop : ℕ → Event
@@ -91,7 +91,7 @@ module _ (f : Frame) where
       let last = heldLast (cells axis - 1) (lastCell axis vs) in
       slices axis (λ at. edgeAt axis at) (λ at part. within gives at part) (fromTo first last) first vs
 
-  -- ---- a cell's part: nothing, reply 7, or one insertion
+  -- ---- a part in row z and column x: nothing, reply 7, or one insertion
   unfoldable pub cellEvents : ℕ → ℕ → List Corner → List Event
   cellEvents z x part =
       snapped maxHeight (leastOf (map yOf part)) (greatestOf (map yOf part)) (f .grid .min .y) (f .tall) (f .rise)
@@ -99,7 +99,7 @@ module _ (f : Frame) where
       (stop 7 ∷ [])
       (λ floor ceiling. insert x z floor ceiling ∷ [])
 
-  -- ---- a row's part, which is skipped where it ends before the grid or begins behind it
+  -- ---- a part in row z, which is skipped where it ends before the grid or begins behind it
   unfoldable pub rowEvents : ℕ → List Corner → List Event
   rowEvents z part =
       cond (ltZ (lastCell X part) (pos 0) || leZ (pos (f .width)) (firstCell X part))

@@ -6,7 +6,7 @@ use native.Mathlib.Omega.{arith}
 use lib.ListN.{length, getD, set, length-set}
 use lib.Seq.{getD-set-same, getD-set-other}
 use Rattle.field.specs.declared.Span.{Span}
-use Rattle.field.specs.Slots.{contents, spanAt, same, times}
+use Rattle.field.specs.Slots.{contents, spanAt, times}
 use Rattle.field.specs.Inner.{Distinct}
 use Rattle.field.specs.Filters.{ruled, assign}
 use Rattle.field.proofs.Counting.{same-eq, times-first, times-apart, distinct-head, distinct-tail}

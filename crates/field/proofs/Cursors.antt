@@ -7,7 +7,7 @@ use native.Mathlib.Omega.{arith}
 use lib.ListN.{length, getD}
 use Rattle.field.specs.declared.Span.{Span}
 use Rattle.field.specs.Spans.{Ascends}
-use Rattle.field.specs.Slots.{none, Contents, contents, spanAt, rangeAt, Slots, slots}
+use Rattle.field.specs.Slots.{none, Contents, contents, spanAt, rangeAt, slots}
 use Rattle.field.specs.Field.{Field, columnAt, spans, Holds}
 use Rattle.field.specs.Inner.{Chain}
 use Rattle.field.specs.Walkable.{roof}

@@ -1,6 +1,5 @@
 -- What a filter leaves, span by span: each has the area that the rule gives it from the spans as they were, and a slot of no column keeps its area.
 use mathlib.Core.Path.{_≡_, refl, sym, ap, _∙_}
-use mathlib.Core.Logic.{_≢_}
 use mathlib.Core.Bool.{Bool, true, false, cond}
 use mathlib.Core.List.{List, [], _∷_, _++_, map, map-map, map-append, reverseAux, reverse}
 use Prim.Native.Nat.{ℕ, zero, suc, _+_, _<_, _≤_}
@@ -10,7 +9,7 @@ use native.Mathlib.Decide.{decLt}
 use lib.ListN.{length, getD, length-map}
 use lib.Seq.{getD-at}
 use Rattle.field.specs.declared.Span.{Span}
-use Rattle.field.specs.Slots.{none, Contents, spanAt, Slots, times, timesIn}
+use Rattle.field.specs.Slots.{none, Contents, spanAt, Slots, timesIn}
 use Rattle.field.specs.Field.{Field, columnAt, spans, ranges, Holds}
 use Rattle.field.specs.Inner.{Says}
 use Rattle.field.specs.Beside.{beside}

@@ -1,7 +1,7 @@
 -- The test for a ledge says what the rules say: `ledge` is true where `Ledge` holds, and false where it does not.
-use mathlib.Core.Path.{_≡_, refl, sym, _∙_}
+use mathlib.Core.Path.{_≡_, refl}
 use mathlib.Core.Logic.{_⊎_, inl, inr, _↔_, ⊎-elim}
-use mathlib.Core.Bool.{Bool, true, false, not, _||_}
+use mathlib.Core.Bool.{Bool, true, false, _||_}
 use mathlib.Core.List.{List, [], _∷_, foldl}
 use Prim.Native.Nat.{ℕ, _+_, _<_, _≤_, min, max}
 use native.Mathlib.Omega.{arith}
@@ -9,10 +9,9 @@ use borrow.Author.Tests.{ltb-true, ltb-false, leb-true, leb-false, eqb-true, eqb
 use lib.Dec.{ltb, leb, eqb}
 use Rattle.field.specs.declared.Span.{Span}
 use Rattle.field.specs.Slots.{none}
-use Rattle.field.specs.Stretches.{In}
 use Rattle.field.specs.Inner.{Says}
 use Rattle.field.specs.Walkable.{roof}
-use Rattle.field.specs.Ledges.{Stand, Some, Has, Roomy, Gap, Drop, Near, Step, Steep, Ledge}
+use Rattle.field.specs.Ledges.{Stand, Some, Roomy, Gap, Drop, Near, Step, Steep, Ledge}
 use Rattle.field.specs.LedgeTest.{some, gap, roomy, View, view, outset, seen, looked, lookedAt, tells, ledge}
 use Rattle.field.proofs.Basics.{by-test, says-if, says-iff}
 

@@ -1,14 +1,12 @@
 -- A walk up a column that clears the spans at a ledge, with a cursor in each of the four columns beside.
-use mathlib.Core.Path.{_≡_, _∙_}
+use mathlib.Core.Path.{_≡_}
 use mathlib.Core.Logic.{_≢_}
 use mathlib.Core.Bool.{cond}
-use mathlib.Core.List.{List, [], _∷_, map}
-use Prim.Native.Nat.{ℕ, suc, _+_, _-_, _<_, _≤_}
+use mathlib.Core.List.{List, _∷_, map}
+use Prim.Native.Nat.{ℕ, suc, _+_, _-_, _<_}
 use native.Mathlib.Omega.{arith}
 use lib.ListN.{length, getD, set}
-use Rattle.field.specs.declared.Span.{Span}
-use Rattle.field.specs.Spans.{Ascends}
-use Rattle.field.specs.Slots.{none, contents, spanAt, rangeAt, slots}
+use Rattle.field.specs.Slots.{none, contents, slots}
 use Rattle.field.specs.Field.{Field, columnAt, spans, Holds}
 use Rattle.field.specs.Inner.{Chain}
 use Rattle.field.specs.Marks.{Climbs}

@@ -46,3 +46,4 @@ pub mod Layers
 pub mod Joining
 pub mod Sides
 pub mod CompactOne
+pub mod FilterCalls

@@ -1,7 +1,7 @@
 -- What a look at the columns beside may leave out: all that follows a drop, and spans without room. So the test for a ledge in its parts.
 use mathlib.Core.Path.{_≡_, refl, sym, ap, _∙_}
-use mathlib.Core.Logic.{_≢_, inl, inr}
-use mathlib.Core.Bool.{Bool, true, false, not, _||_, cond}
+use mathlib.Core.Logic.{inl, inr}
+use mathlib.Core.Bool.{true, false, not}
 use mathlib.Core.List.{List, [], _∷_, map, foldl}
 use Prim.Native.Nat.{ℕ, suc, _+_, _<_, _≤_, min, max}
 use native.Mathlib.Omega.{arith}
@@ -12,7 +12,7 @@ use Rattle.field.specs.declared.Span.{Span}
 use Rattle.field.specs.Spans.{Ascends}
 use Rattle.field.specs.Slots.{none, Contents, spanAt, rangeAt}
 use Rattle.field.specs.Stretches.{In}
-use Rattle.field.specs.Walkable.{openTop, roof}
+use Rattle.field.specs.Walkable.{roof}
 use Rattle.field.specs.Ledges.{Stand, stand}
 use Rattle.field.specs.LedgeTest.{some, gap, roomy, View, view, outset, seen, looked, lookedAt, tells, ledge}
 use Rattle.field.specs.Filters.{firm}

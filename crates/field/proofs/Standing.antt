@@ -19,7 +19,9 @@ use Rattle.field.specs.Slots.{Contents, Slots}
 use Rattle.field.specs.Field.{Field, columnAt, spans, ranges, Holds, freshField, Inserted, insert}
 use Rattle.field.specs.Store.{Store, Fits, Fitting, Sound, cleared, Outcome, left, Admits, Becomes}
 use Rattle.field.specs.Calls.{Made, made, IsFresh, Freshened, Inserts, Offers}
-use Rattle.field.specs.History.{Call, addSpan, Does, Step, History, start, then, Begins, Placed, placedBy, inColumn, acceptedIn}
+use Rattle.field.specs.History.{Call, addSpan, filterLowObstacles, filterLedges, filterLowCeilings, Does, Step, History, start, then, Begins, Placed, placedBy, inColumn, acceptedIn}
+use Rattle.field.specs.Beside.{beside}
+use Rattle.field.specs.Filters.{Rule, filtered, raised, firm, roomed, Filters, Filtered}
 use Rattle.field.proofs.Basics.{by-dec, true-false}
 use Rattle.field.proofs.Contents.{ranges-spans}
 use Rattle.field.proofs.Walking.{insertRange, column-ranges}
@@ -27,6 +29,8 @@ use Rattle.field.proofs.Accepting.{Kept, Accepts, insert-cases}
 use Rattle.field.proofs.Stretching.{Covers, covers-insert}
 use Rattle.field.proofs.Emptying.{fresh-covers}
 use Rattle.field.proofs.Unique.{store-fixed, field-fixed}
+use Rattle.field.proofs.Sweeping.{withAreas, filtered-holds}
+use Rattle.field.proofs.Filtering.{filtered-keeps-ranges}
 
 -- a column of the grid
 pub cell-below : (x z w h : ℕ) → x < w → z < h → x + z * w < w * h
@@ -198,10 +202,31 @@ admitted {g = g} {s = s} S ends Fitted next o fitted (inr a) = slices (a .1)
     slices (inl b) = absurd (b .0 fitted)
     slices (inr b) = sound (b .1)
 
+-- ---- a filter
+
+-- it keeps the floors and ceilings, by whatever rule it goes for a field
+filter-stands : {g : Grid} {A : ℕ → List Span} {s : Store} → Standing g A s → (rule : Field → Rule) (o : Outcome) → Filtered g (λ f. filtered (rule f) f) s o → Standing g A (o .store)
+filter-stands {g} {A} {s} S rule o d =
+    let k = admitted S left (Fitting (columns g) s) (Filters (columns g) (λ f. filtered (rule f) f) s) o (S .fits) d in
+    let f = k .0 in
+    becomes-stands S A (filtered (rule f) f) o
+    (record {
+      heads = take (columns g) (s .heads);
+      slots = withAreas (s .slots) (filtered (rule f) f .contents .areas);
+      holds = filtered-holds (rule f) (k .1);
+      columns = first-long (S .fits);
+      size = refl;
+    })
+    (k .2)
+    (λ i l. rw (filtered-keeps-ranges (rule f) f i, field-fixed (k .1) (S .holds)) (S .covers i l))
+
 -- ---- any call, and any calls
 
 does-stands : {g : Grid} {A : ℕ → List Span} {s : Store} → Standing g A s → (call : Call) (o : Outcome) → Does g call s o → Standing g (after g call (o .said) A) (o .store)
 does-stands {g} {A} {s} S (addSpan x z new th) o d = inside S x z new th o (admitted S left (Fitting (columns g) s) (Offers (width g) (height g) x z new th s) o (S .fits) d)
+does-stands S (filterLowObstacles climb) o d = filter-stands S (λ f i below s above. raised climb below s) o d
+does-stands {g} S (filterLedges tall climb) o d = filter-stands S (λ f i below s above. firm tall climb (spans f) (beside (width g) (height g) i) s above) o d
+does-stands S (filterLowCeilings tall) o d = filter-stands S (λ f i below s above. roomed tall s above) o d
 
 pub history-stands : (g : Grid) (s : Store) → Begins g s → {steps : List Step} {t : Store} → History g s steps t → Standing g (λ i. acceptedIn g i steps) t
 history-stands g s b start = begins-stands g s b

@@ -1,4 +1,4 @@
--- The rules' worked insertions P1 to P6: one table, one computed test of an entry, and one law that turns the test into what the entry states.
+-- The rules' worked insertions P1 to P6 and filters P10 and P11: one table, one computed test of an entry, and one law that turns the test into what the entry states.
 use mathlib.Core.Path.{_≡_, refl, sym, ap₂, subst}
 use mathlib.Core.Logic.{_⊎_, inl, inr}
 use mathlib.Core.Bool.{Bool, true, false, cond, _&&_}
@@ -9,6 +9,7 @@ use lib.Dec.{eqb}
 use Rattle.field.specs.declared.Span.{Span}
 use Rattle.field.specs.Field.{Field, spans, freshField, insert}
 use Rattle.field.specs.Stretches.{In}
+use Rattle.field.specs.Filters.{lowObstacles, lowCeilings}
 use Rattle.field.proofs.Basics.{true-false}
 
 -- ---- the table
@@ -16,28 +17,37 @@ use Rattle.field.proofs.Basics.{true-false}
 abbrev span : ℕ → ℕ → ℕ → Span
 span floor ceiling area = record { floor = floor; ceiling = ceiling; area = area }
 
--- a store of one column; spans offered to it one after another, with one threshold; the reply to each; and what the column then lists
+-- a store of one column; spans offered to it one after another, with one threshold; the reply to each; a filter run then; and what the column lists at
+-- the end
 pub record Case : Type 0 where
   pub slots : ℕ
   pub threshold : ℕ
   pub offers : List Span
   pub replies : List ℕ
+  pub filter : Field → Field
   pub leaves : List Span
 
+abbrev tryFilter : ℕ → ℕ → List Span → List ℕ → (Field → Field) → List Span → Case
+tryFilter slots threshold offers replies filter leaves =
+    record { slots = slots; threshold = threshold; offers = offers; replies = replies; filter = filter; leaves = leaves }
+
+-- no filter is run
 abbrev try : ℕ → ℕ → List Span → List ℕ → List Span → Case
-try slots threshold offers replies leaves =
-    record { slots = slots; threshold = threshold; offers = offers; replies = replies; leaves = leaves }
+try slots threshold offers replies leaves = tryFilter slots threshold offers replies (λ f. f) leaves
 
 pub table : List Case
 table =
-    try 4 1 (span 2 5 3 ∷ span 5 9 1 ∷ []) (0 ∷ 0 ∷ []) (span 2 9 1 ∷ []) -- P1
-    ∷ try 4 1 (span 2 5 3 ∷ span 4 6 1 ∷ []) (0 ∷ 0 ∷ []) (span 2 6 3 ∷ []) -- P2
-    ∷ try 4 0 (span 2 5 1 ∷ span 7 9 2 ∷ span 6 6 3 ∷ []) (0 ∷ 0 ∷ 0 ∷ []) (span 2 5 1 ∷ span 6 6 3 ∷ span 7 9 2 ∷ []) -- P3
-    ∷ try 4 0 (span 2 5 3 ∷ span 7 9 4 ∷ span 5 7 1 ∷ []) (0 ∷ 0 ∷ 0 ∷ []) (span 2 9 4 ∷ []) -- P4
-    ∷ try 4 0 (span 0 1 9 ∷ span 1 9 1 ∷ []) (0 ∷ 0 ∷ []) (span 0 9 1 ∷ []) -- P5
-    ∷ try 4 0 (span 1 9 1 ∷ span 0 1 9 ∷ []) (0 ∷ 0 ∷ []) (span 0 9 9 ∷ []) -- P5, the other order
-    ∷ try 1 0 (span 2 5 3 ∷ span 6 7 1 ∷ []) (0 ∷ 5 ∷ []) (span 2 5 3 ∷ []) -- P6
-    ∷ try 1 0 (span 2 5 3 ∷ span 5 7 1 ∷ []) (0 ∷ 0 ∷ []) (span 2 7 1 ∷ []) -- P6, a span that shares a height
+    try 4 1 (span 2 5 3 ∷ span 5 9 1 ∷ []) (0 ∷ 0 ∷ []) (span 2 9 1 ∷ [])  -- P1
+    ∷ try 4 1 (span 2 5 3 ∷ span 4 6 1 ∷ []) (0 ∷ 0 ∷ []) (span 2 6 3 ∷ [])  -- P2
+    ∷ try 4 0 (span 2 5 1 ∷ span 7 9 2 ∷ span 6 6 3 ∷ []) (0 ∷ 0 ∷ 0 ∷ []) (span 2 5 1 ∷ span 6 6 3 ∷ span 7 9 2 ∷ [])  -- P3
+    ∷ try 4 0 (span 2 5 3 ∷ span 7 9 4 ∷ span 5 7 1 ∷ []) (0 ∷ 0 ∷ 0 ∷ []) (span 2 9 4 ∷ [])  -- P4
+    ∷ try 4 0 (span 0 1 9 ∷ span 1 9 1 ∷ []) (0 ∷ 0 ∷ []) (span 0 9 1 ∷ [])  -- P5
+    ∷ try 4 0 (span 1 9 1 ∷ span 0 1 9 ∷ []) (0 ∷ 0 ∷ []) (span 0 9 9 ∷ [])  -- P5, the other order
+    ∷ try 1 0 (span 2 5 3 ∷ span 6 7 1 ∷ []) (0 ∷ 5 ∷ []) (span 2 5 3 ∷ [])  -- P6
+    ∷ try 1 0 (span 2 5 3 ∷ span 5 7 1 ∷ []) (0 ∷ 0 ∷ []) (span 2 7 1 ∷ [])  -- P6, a span that shares a height
+    ∷ tryFilter 4 0 (span 0 1 5 ∷ span 3 4 0 ∷ span 5 6 0 ∷ []) (0 ∷ 0 ∷ 0 ∷ []) (lowObstacles 3) (span 0 1 5 ∷ span 3 4 5 ∷ span 5 6 0 ∷ [])  -- P10
+    ∷ tryFilter 4 0 (span 0 65530 7 ∷ []) (0 ∷ []) (lowCeilings 5) (span 0 65530 7 ∷ [])  -- P11
+    ∷ tryFilter 4 0 (span 0 65530 7 ∷ []) (0 ∷ []) (lowCeilings 6) (span 0 65530 0 ∷ [])  -- P11, one more
     ∷ []
 
 -- ---- what an entry states
@@ -53,10 +63,11 @@ abbrev pub fieldAfter : ℕ → Field → List Span → Field
 fieldAfter threshold f [] = f
 fieldAfter threshold f (s ∷ ss) = fieldAfter threshold (insert threshold f 0 s .field) ss
 
+abbrev pub leftBy : Case → List Span
+leftBy c = spans (c .filter (fieldAfter (c .threshold) (freshField 1 (c .slots)) (c .offers))) 0
+
 abbrev pub Right : Case → Type 0
-Right c =
-    (repliesTo (c .threshold) (freshField 1 (c .slots)) (c .offers) ≡ c .replies)
-    × (spans (fieldAfter (c .threshold) (freshField 1 (c .slots)) (c .offers)) 0 ≡ c .leaves)
+Right c = (repliesTo (c .threshold) (freshField 1 (c .slots)) (c .offers) ≡ c .replies) × (leftBy c ≡ c .leaves)
 
 -- ---- the test, and what it shows
 
@@ -78,7 +89,7 @@ sameSpans (a ∷ as′) (b ∷ bs) = sameSpan a b && sameSpans as′ bs
 abbrev right : Case → Bool
 right c =
     sameNumbers (repliesTo (c .threshold) (freshField 1 (c .slots)) (c .offers)) (c .replies)
-    && sameSpans (spans (fieldAfter (c .threshold) (freshField 1 (c .slots)) (c .offers)) 0) (c .leaves)
+    && sameSpans (leftBy c) (c .leaves)
 
 both : (a b : Bool) → (a && b) ≡ true → (a ≡ true) × (b ≡ true)
 both true b e = (refl, e)
@@ -111,8 +122,8 @@ spans-same (a ∷ as′) (b ∷ bs) e =
 
 right-case : (c : Case) → right c ≡ true → Right c
 right-case c e =
-    let k = both (sameNumbers (repliesTo (c .threshold) (freshField 1 (c .slots)) (c .offers)) (c .replies)) (sameSpans (spans (fieldAfter (c .threshold) (freshField 1 (c .slots)) (c .offers)) 0) (c .leaves)) e in
-    (numbers-same (repliesTo (c .threshold) (freshField 1 (c .slots)) (c .offers)) (c .replies) (k .0), spans-same (spans (fieldAfter (c .threshold) (freshField 1 (c .slots)) (c .offers)) 0) (c .leaves) (k .1))
+    let k = both (sameNumbers (repliesTo (c .threshold) (freshField 1 (c .slots)) (c .offers)) (c .replies)) (sameSpans (leftBy c) (c .leaves)) e in
+    (numbers-same (repliesTo (c .threshold) (freshField 1 (c .slots)) (c .offers)) (c .replies) (k .0), spans-same (leftBy c) (c .leaves) (k .1))
 
 abbrev allRight : List Case → Bool
 allRight [] = true

@@ -78,8 +78,10 @@ lowCeilings height f = filtered (λ i below s above. roomed height s above) f
 
 -- ---- the call of a filter
 
--- 1, 2, 3, 4, 14, or else the field that the store holds is filtered
+-- the field that the store holds is filtered
+abbrev pub Filters : ℕ → (Field → Field) → Store → Outcome → Type 0
+Filters n filter s o = (f : Field) × Holds (take n (s .heads)) (s .slots) f × Becomes n s (filter f) o
+
+-- 1, 2, 3, 4, 14, and nothing else
 abbrev pub Filtered : Grid → (Field → Field) → Store → Outcome → Type 0
-Filtered g filter s =
-    Admits left g (Fitting (columns g) s) s
-    (λ o. (f : Field) × Holds (take (columns g) (s .heads)) (s .slots) f × Becomes (columns g) s (filter f) o)
+Filtered g filter s = Admits left g (Fitting (columns g) s) s (Filters (columns g) filter s)

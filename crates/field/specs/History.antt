@@ -7,7 +7,7 @@ use lib.ListN.{length}
 use lib.Dec.{eqb}
 use Rattle.replies.specs.Said.{Said, just}
 use Rattle.grid.specs.declared.Grid.{Grid}
-use Rattle.grid.specs.Grid.{width}
+use Rattle.grid.specs.Grid.{width, height}
 use Rattle.field.specs.declared.Span.{Span}
 use Rattle.field.specs.Spans.{Range, range}
 use Rattle.field.specs.Slots.{Slots}
@@ -15,14 +15,21 @@ use Rattle.field.specs.Field.{Field, ranges, lengthIn}
 use Rattle.field.specs.Stretches.{In, Shares}
 use Rattle.field.specs.Store.{Store, Outcome}
 use Rattle.field.specs.Calls.{made, Freshened, Added}
+use Rattle.field.specs.Filters.{lowObstacles, ledges, lowCeilings, Filtered}
 
 -- a call that changes a field, with all that it is given besides the grid and the store
 pub data Call : Type 0 where
   addSpan : (x z : ℕ) → Span → (threshold : ℕ) → Call
+  filterLowObstacles : (climb : ℕ) → Call
+  filterLedges : (tall climb : ℕ) → Call
+  filterLowCeilings : (tall : ℕ) → Call
 
 -- what its contract says of its outcome
 abbrev pub Does : Grid → Call → Store → Outcome → Type 0
 Does g (addSpan x z new threshold) s = Added g x z new threshold s
+Does g (filterLowObstacles climb) s = Filtered g (lowObstacles climb) s
+Does g (filterLedges tall climb) s = Filtered g (ledges (width g) (height g) tall climb) s
+Does g (filterLowCeilings tall) s = Filtered g (lowCeilings tall) s
 
 -- a call that was made, and what it answered
 pub record Step : Type 0 where
@@ -48,9 +55,12 @@ pub record Placed : Type 0 where
   pub column : ℕ
   pub span : Span
 
--- those of one call, the last first
+-- those of one call, the last first: a filter puts in none
 abbrev pub placedBy : Grid → Call → Said → List Placed
 placedBy g (addSpan x z new threshold) said = cond (eqb (said .number) 0) (record { column = x + z * width g; span = new } ∷ []) []
+placedBy g (filterLowObstacles climb) said = []
+placedBy g (filterLedges tall climb) said = []
+placedBy g (filterLowCeilings tall) said = []
 
 -- the spans in column `i`
 abbrev pub inColumn : ℕ → List Placed → List Span

@@ -4,3 +4,4 @@ pub mod Answers
 pub mod Compacting
 pub mod Around
 pub mod CompactCall
+pub mod Filtered

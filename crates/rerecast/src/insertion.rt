@@ -33,13 +33,13 @@ fn give_back(
     *free = s;
 }
 
-fn lesser(a: u16, b: u16) -> u16
+pub(crate) fn lesser(a: u16, b: u16) -> u16
     ensures { λ r. ⌜ r ≡ min a b ⌝ }
 {
     if b < a { b } else { a }
 }
 
-fn greater(a: u16, b: u16) -> u16
+pub(crate) fn greater(a: u16, b: u16) -> u16
     ensures { λ r. ⌜ r ≡ max a b ⌝ }
 {
     if a < b { b } else { a }

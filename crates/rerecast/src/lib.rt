@@ -4,6 +4,7 @@ mod admission;
 pub mod compact_heightfield;
 pub mod heightfield;
 mod insertion;
+pub mod pre_filter;
 mod slices;
 mod soundness;
 

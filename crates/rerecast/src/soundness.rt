@@ -21,7 +21,7 @@ enum Tally {
     Broken,
 }
 
-fn wide(x: u16) -> u32
+pub(crate) fn wide(x: u16) -> u32
     ensures { λ r. ⌜ r ≡ x ⌝ }
 {
     x as u32

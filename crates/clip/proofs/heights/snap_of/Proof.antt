@@ -1,14 +1,12 @@
 -- `clip::heights::snap_of` meets its contract.
 use borrow.Author.Needs.{needs}
-use mathlib.Core.Path.{_≡_, refl, sym, ap, _∙_}
-use mathlib.Core.List.{[], _∷_}
-use Prim.Native.Nat.{ℕ, _+_, _≤_, _<_}
+use mathlib.Core.Path.{_≡_, sym, ap, _∙_}
+use Prim.Native.Nat.{_+_, _<_}
 use native.Mathlib.Omega.{arith}
 use lib.IntN.{ℤ}
 use lib.Ieee.{Float, binary32, mul, ofBits}
 use mir.Syntax.{w32}
 use mir.ValLaws.{toZ-ofZ}
-use Rattle.replies.specs.Said.{Said, whole, say}
 use Rattle.ops.specs.Round.{floorTo, ceilTo}
 use Rattle.clip.specs.Slices.{heldTo}
 use Rattle.clip.specs.Snap.{maxHeight, floorOf, ceilingOf}

@@ -61,7 +61,7 @@ returns-3 c =
     let spread = cut .before .before .before .before .before .before .before in
     let few = spread .before .before .before .before in
     let a = few .before .before .args in
-    rw (second-refused (a .axis) (a .offset) (a .p) (few .if1 .left) (inside few) zeros _ _ zeros-long (spread .spread .ensures) _ (cut .divide .ensures) (c .before .before .before .if2 .left) (c .before .if3 .taken)) (c .refused3 .ensures)
+    rw (second-refused (a .axis) (a .offset) (a .p) (few .if1 .left) (inside few) zeros _ _ zeros-long (spread .spread .ensures) _ (cut .divide .ensures) (c .before .before .before .if2 .left) (omega (arith, c .before .if3 .taken))) (c .refused3 .ensures)
 
 gather-requires : tie.Need-gather-requires
 gather-requires c κs = search needs

@@ -1,6 +1,6 @@
 -- `clip::poly::spread` meets its contract. The loop's invariant: the vertices from i on, written where they belong, leave what all of them leave.
 use borrow.Author.Needs.{needs}
-use mathlib.Core.Path.{_≡_, refl, sym, ap, _∙_}
+use mathlib.Core.Path.{_≡_, refl, ap, _∙_}
 use Prim.Native.Nat.{_+_, _-_, _≤_}
 use native.Mathlib.Omega.{arith}
 use lib.ListN.{length, length-map, take, drop}

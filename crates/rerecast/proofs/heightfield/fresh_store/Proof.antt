@@ -44,16 +44,16 @@ same-length : tie.Need-same-length
 same-length c = search needs
 
 same-length-2 : tie.Need-same-length-2
-same-length-2 c = search needs
+same-length-2 c = c .before .before .before .before .before .before .before .before .before .before .before .before .before .before .clear-heights .kept .0
 
 same-length-3 : tie.Need-same-length-3
-same-length-3 c = search needs
+same-length-3 c = c .before .before .before .before .before .before .before .before .before .before .clear-heights2 .kept .0
 
 same-length-4 : tie.Need-same-length-4
-same-length-4 c = search needs
+same-length-4 c = c .before .before .before .before .before .before .clear-bytes .kept .0
 
 same-length-5 : tie.Need-same-length-5
-same-length-5 c = search needs
+same-length-5 c = c .before .before .chain-slots .kept .0
 
 returns-2 : tie.Need-returns-2
 returns-2 c = let s = c .before .before .before .before .before .before .before .before .before .before .before .before .before .before .before .before .before .before .before .before .before .before .before .before .before .before .before .before in let n = c .before .before .before .before .before .before .before .before .before .before .before .before .before .before .before .before .before .before .before .before .before .before .columns-of .ensures in let f = rw n at (says-true (c .before .before .before .before .before .before .before .before .before .before .before .before .before .before .before .before .before .before .before .before .before .slices-fit .result) (c .before .before .before .before .before .before .before .before .before .before .before .before .before .before .before .before .before .before .before .before .if1 .left) (c .before .before .before .before .before .before .before .before .before .before .before .before .before .before .before .before .before .before .before .before .before .slices-fit .ensures)) in inr (f, fresh-made (s .args .width * s .args .height) (s .args .heads .now) (slots (s .args .free .now) (s .args .floors .now) (s .args .ceilings .now) (s .args .areas .now) (s .args .nexts .now)) (c .before .before .before .before .before .before .before .before .before .before .before .before .before .before .before .before .before .before .before .before .before .before .columns-of .result) n f (c .before .before .before .before .before .before .before .before .before .before .before .before .before .before .before .before .before .before .clear-heads .ensures) (c .before .before .before .before .before .before .before .before .before .before .before .before .before .before .clear-heights .ensures) (c .before .before .before .before .before .before .before .before .before .before .clear-heights2 .ensures) (c .before .before .before .before .before .before .clear-bytes .ensures) (c .before .before .chain-slots .ensures))

@@ -1,0 +1,645 @@
+// The filters. They change the areas of spans in columns and nothing else: low obstacles become walkable, and ledges and spans under low ceilings do not
+// stay so. Every area is found from the spans as they were before the filter.
+use crate::Reply;
+use crate::admission::Admission;
+use crate::admission::admit;
+use crate::admission::columns_of;
+use crate::insertion::greater;
+use crate::insertion::lesser;
+use crate::slices::index;
+use crate::soundness::wide;
+use field::NONE;
+use grid::Grid;
+ghost use mathlib.Core.Path.{_≡_};
+ghost use mathlib.Core.Bool.{false, cond};
+ghost use mathlib.Core.List.{List, [], map};
+ghost use Prim.Native.Nat.{ℕ, _+_, _*_, _≤_, _<_};
+ghost use lib.ListN.{length, getD};
+ghost use lib.Dec.{ltb, leb};
+ghost use Rattle.field.specs.declared.Span.{Span};
+ghost use Rattle.field.specs.Slots.{none, contents, spanAt, slots};
+ghost use Rattle.field.specs.Field.{Field, spans, Holds, Held};
+ghost use Rattle.grid.specs.Grid.{width, height};
+ghost use Rattle.field.specs.Store.{store, left};
+ghost use Rattle.field.specs.Inner.{Says, Chain, Distinct};
+ghost use Rattle.field.specs.Marks.{Climbs};
+ghost use Rattle.field.specs.Beside.{beside};
+ghost use Rattle.field.specs.LedgeTest.{seen, looked, lookedAt, tells, ledge};
+ghost use Rattle.field.specs.FilterCode.{Beneath, roofAt, Rim, around, greatest, hollowOf, Inside, Cursor, Cursors};
+ghost use Rattle.field.specs.Filters.{ruled, assign, raised, lowObstacles, firm, ledges, roomed, lowCeilings, Filtered};
+ghost use Rattle.rerecast.specs.Answer.{saidOf};
+ghost use Rattle.rerecast.specs.PreFilter.{standOf, viewOf, sidesOf};
+
+// The height at which a column ends, where no span is above.
+pub const MAX_HEIGHTFIELD_HEIGHT: u16 = 65535;
+
+// The floor of a slot, or the open top where there is none.
+pub(crate) fn roof_of(floors: &[u16], s: u32) -> u16
+    requires { ⌜ ((s ≡ none → ⊥) → s < length (now floors)) ⌝ }
+    ensures { λ r. ⌜ r ≡ roofAt (now (floors .entry)) s ⌝ }
+{
+    if s == NONE {
+        return MAX_HEIGHTFIELD_HEIGHT;
+    }
+    let i = index(s);
+    floors[i]
+}
+
+// Whether a height is at most another and a bit more.
+fn within(a: u16, b: u16, more: u16) -> bool
+    ensures { λ r. ⌜ r ≡ leb a (b + more) ⌝ }
+{
+    wide(a) <= wide(b) + wide(more)
+}
+
+// Whether there is at least a height between a bottom and a lid.
+fn has_room(bottom: u16, height: u16, lid: u16) -> bool
+    ensures { λ r. ⌜ r ≡ leb (bottom + height) lid ⌝ }
+{
+    wide(bottom) + wide(height) <= wide(lid)
+}
+
+// ---- low obstacles
+
+// The area of a span afterwards, from its own ceiling and area and those of the span below it, `ground` being 0 where there is none.
+fn raise(climb: u16, base: u16, ground: u8, ceiling: u16, area: u8) -> u8
+    ensures { λ r. ⌜ ((floor : ℕ) (below : List Span) → Beneath base ground below → r ≡ raised climb below (record { floor = floor; ceiling = ceiling; area = area })) ⌝ }
+{
+    if area != 0 {
+        return area;
+    }
+    if ground == 0 {
+        return 0;
+    }
+    if within(ceiling, base, climb) {
+        return ground;
+    }
+    0
+}
+
+// The filter on the column that starts at `head`.
+fn raise_column(ceilings: &[u16], areas: &mut [u8], nexts: &[u32], head: u32, climb: u16)
+    requires { ⌜ (length (now ceilings) ≡ length (now nexts)) × (length (now areas) ≡ length (now nexts)) ⌝ }
+    requires { ⌜ ((ss : List ℕ) × (Chain (now nexts) head ss × Distinct ss)) ⌝ }
+    ensures { λ _. ⌜ ((floors ss : List ℕ) → Chain (now (nexts .entry)) head ss → now (areas .exit) ≡ assign (now (areas .entry)) ss (ruled (λ below s above. raised climb below s) [] (map (spanAt (contents floors (now (ceilings .entry)) (now (areas .entry)))) ss))) ⌝ }
+{
+    let mut at = head;
+    let mut base: u16 = 0;
+    let mut ground: u8 = 0;
+    while at != NONE {
+        let i = index(at);
+        let ceiling = ceilings[i];
+        let area = areas[i];
+        areas[i] = raise(climb, base, ground, ceiling, area);
+        base = ceiling;
+        ground = area;
+        at = nexts[i];
+    }
+}
+
+// The filter on a sound field.
+pub(crate) fn raise_columns(
+    heads: &[u32],
+    ceilings: &[u16],
+    areas: &mut [u8],
+    nexts: &[u32],
+    climb: u16,
+)
+    requires { ⌜ ((free : ℕ) × (floors : List ℕ) × Held (now heads) (slots free floors (now ceilings) (now areas) (now nexts))) ⌝ }
+    ensures { λ _. ⌜ ((free : ℕ) (floors : List ℕ) (f : Field) → Holds (now (heads .entry)) (slots free floors (now (ceilings .entry)) (now (areas .entry)) (now (nexts .entry))) f → Holds (now (heads .entry)) (slots free floors (now (ceilings .entry)) (now (areas .exit)) (now (nexts .entry))) (lowObstacles climb f)) ⌝ }
+{
+    let mut i = 0;
+    while i < heads.len() {
+        raise_column(ceilings, areas, nexts, heads[i], climb);
+        i += 1;
+    }
+}
+
+// Makes low obstacles walkable: an unwalkable span takes the area of a walkable one just below it.
+pub fn filter_low_hanging_walkable_obstacles(
+    grid: Grid,
+    heads: &[u32],
+    free: &u32,
+    floors: &[u16],
+    ceilings: &[u16],
+    areas: &mut [u8],
+    nexts: &[u32],
+    marks: &mut [u8],
+    walkable_climb: u16,
+) -> Reply
+    ensures { λ r. ⌜ Filtered grid (lowObstacles «walkable_climb») (store (now (heads .entry)) (slots (now (free .entry)) (now (floors .entry)) (now (ceilings .entry)) (now (areas .entry)) (now (nexts .entry))) (now (marks .entry))) (left (saidOf r) (store (now (heads .entry)) (slots (now (free .entry)) (now (floors .entry)) (now (ceilings .entry)) (now (areas .exit)) (now (nexts .entry))) (now (marks .exit)))) ⌝ }
+{
+    let columns = heads.len();
+    let admission = admit(
+        grid,
+        heads,
+        *free,
+        floors,
+        ceilings,
+        areas,
+        nexts,
+        marks,
+        columns,
+    );
+    match admission {
+        Admission::Refused(r) => r,
+        Admission::Granted(width, height) => {
+            let n = columns_of(width, height);
+            raise_columns(&heads[..n], ceilings, areas, nexts, walkable_climb);
+            Reply::Accepted
+        }
+    }
+}
+
+// ---- ledges
+
+// Where somebody stands: the ceiling of a span and the floor above it, with the walkable height and the climb.
+struct Stand {
+    top: u16,
+    roof: u16,
+    height: u16,
+    climb: u16,
+}
+
+// What a look at neighbour spans has found: a drop, or the least and the greatest ceiling that can be stepped to.
+struct View {
+    drop: bool,
+    low: u16,
+    high: u16,
+}
+
+// A slot in each column beside: nothing below it can be stepped to any more.
+struct Sides {
+    west: u32,
+    north: u32,
+    east: u32,
+    south: u32,
+}
+
+// A span's area afterwards, and how far the slots beside have moved up.
+struct Judged {
+    area: u8,
+    sides: Sides,
+}
+
+// One neighbour span more: its ceiling, and the floor above it.
+fn see(st: Stand, ceiling: u16, floor: u16, v: View) -> View
+    requires { ⌜ v .drop ≡ false ⌝ }
+    ensures { λ r. ⌜ viewOf r ≡ seen (standOf st) ceiling floor (viewOf v) ⌝ }
+{
+    let bottom = greater(st.top, ceiling);
+    let lid = lesser(st.roof, floor);
+    if !has_room(bottom, st.height, lid) {
+        return v;
+    }
+    if !within(st.top, ceiling, st.climb) {
+        return View {
+            drop: true,
+            low: v.low,
+            high: v.high,
+        };
+    }
+    if !within(ceiling, st.top, st.climb) {
+        return v;
+    }
+    let low = lesser(v.low, ceiling);
+    let high = greater(v.high, ceiling);
+    View {
+        drop: false,
+        low,
+        high,
+    }
+}
+
+// The neighbour spans from slot `s` up. A drop ends the look, and so does a span that is too high: those above it are too.
+fn look(floors: &[u16], ceilings: &[u16], nexts: &[u32], s: u32, st: Stand, start: View) -> View
+    requires { ⌜ (length (now floors) ≡ length (now nexts)) × (length (now ceilings) ≡ length (now nexts)) ⌝ }
+    requires { ⌜ ((ss : List ℕ) × (Chain (now nexts) s ss × Climbs (now floors) (now ceilings) 0 ss)) ⌝ }
+    ensures { λ r. ⌜ ((areas ss : List ℕ) → Chain (now (nexts .entry)) s ss → viewOf r ≡ looked (standOf st) (viewOf start) (map (spanAt (contents (now (floors .entry)) (now (ceilings .entry)) areas)) ss)) ⌝ }
+{
+    let mut at = s;
+    let mut v = start;
+    while at != NONE {
+        if v.drop {
+            return v;
+        }
+        let i = index(at);
+        let ceiling = ceilings[i];
+        if !has_room(ceiling, st.height, st.roof) {
+            return v;
+        }
+        let next = nexts[i];
+        let floor = roof_of(floors, next);
+        v = see(st, ceiling, floor, v);
+        at = next;
+    }
+    v
+}
+
+// From slot `s` up, the first under a floor of at least `need`.
+fn skip(floors: &[u16], nexts: &[u32], s: u32, need: u32) -> u32
+    requires { ⌜ length (now floors) ≡ length (now nexts) ⌝ }
+    requires { ⌜ ((ss : List ℕ) × Chain (now nexts) s ss) ⌝ }
+    ensures { λ r. ⌜ ((ceilings areas : List ℕ) (whole : List Span) → Cursor (contents (now (floors .entry)) ceilings areas) (now (nexts .entry)) need whole s → Cursor (contents (now (floors .entry)) ceilings areas) (now (nexts .entry)) need whole r) ⌝ }
+{
+    let mut at = s;
+    while at != NONE {
+        let i = index(at);
+        let next = nexts[i];
+        if need <= wide(roof_of(floors, next)) {
+            return at;
+        }
+        at = next;
+    }
+    at
+}
+
+// The slots beside, each moved up to the first under a floor of at least `need`.
+fn follow(floors: &[u16], nexts: &[u32], sides: Sides, need: u32) -> Sides
+    requires { ⌜ length (now floors) ≡ length (now nexts) ⌝ }
+    requires { ⌜ ((ceilings : List ℕ) × (areas : List ℕ) × (at : ℕ → List Span) × (w : ℕ) × (i : ℕ) × Cursors (contents (now floors) ceilings areas) (now nexts) need at (around w i) (sidesOf sides)) ⌝ }
+    ensures { λ r. ⌜ ((ceilings areas : List ℕ) (at : ℕ → List Span) (w i : ℕ) → Cursors (contents (now (floors .entry)) ceilings areas) (now (nexts .entry)) need at (around w i) (sidesOf sides) → Cursors (contents (now (floors .entry)) ceilings areas) (now (nexts .entry)) need at (around w i) (sidesOf r)) ⌝ }
+{
+    Sides {
+        west: skip(floors, nexts, sides.west, need),
+        north: skip(floors, nexts, sides.north, need),
+        east: skip(floors, nexts, sides.east, need),
+        south: skip(floors, nexts, sides.south, need),
+    }
+}
+
+// Whether the spans from the slots beside up show a ledge.
+fn looks_steep(floors: &[u16], ceilings: &[u16], nexts: &[u32], sides: Sides, st: Stand) -> bool
+    requires { ⌜ (length (now floors) ≡ length (now nexts)) × (length (now ceilings) ≡ length (now nexts)) ⌝ }
+    requires { ⌜ ((areas : List ℕ) × (at : ℕ → List Span) × (w : ℕ) × (i : ℕ) × Cursors (contents (now floors) (now ceilings) areas) (now nexts) (st .top + st .height) at (around w i) (sidesOf sides)) ⌝ }
+    ensures { λ r. ⌜ ((areas : List ℕ) (at : ℕ → List Span) (w i : ℕ) → Cursors (contents (now (floors .entry)) (now (ceilings .entry)) areas) (now (nexts .entry)) (st .top + st .height) at (around w i) (sidesOf sides) → r ≡ tells (standOf st) (lookedAt (standOf st) at (around w i))) ⌝ }
+{
+    let start = View {
+        drop: false,
+        low: st.top,
+        high: st.top,
+    };
+    let a = look(floors, ceilings, nexts, sides.west, st, start);
+    let b = look(floors, ceilings, nexts, sides.north, st, a);
+    let c = look(floors, ceilings, nexts, sides.east, st, b);
+    let d = look(floors, ceilings, nexts, sides.south, st, c);
+    if d.drop {
+        return true;
+    }
+    !within(d.high, d.low, st.climb)
+}
+
+// A span's area afterwards, where `hollow` is the highest of the lowest floors beside.
+fn judge(
+    floors: &[u16],
+    ceilings: &[u16],
+    nexts: &[u32],
+    sides: Sides,
+    hollow: u16,
+    st: Stand,
+    area: u8,
+) -> Judged
+    requires { ⌜ (length (now floors) ≡ length (now nexts)) × (length (now ceilings) ≡ length (now nexts)) ⌝ }
+    requires { ⌜ ((areas : List ℕ) × (at : ℕ → List Span) × (w : ℕ) × (i : ℕ) × Cursors (contents (now floors) (now ceilings) areas) (now nexts) (st .top + st .height) at (around w i) (sidesOf sides)) ⌝ }
+    ensures { λ r. ⌜ ((areas : List ℕ) (at : ℕ → List Span) (w i : ℕ) → Cursors (contents (now (floors .entry)) (now (ceilings .entry)) areas) (now (nexts .entry)) (st .top + st .height) at (around w i) (sidesOf sides) → Cursors (contents (now (floors .entry)) (now (ceilings .entry)) areas) (now (nexts .entry)) (st .top + st .height) at (around w i) (sidesOf (r .sides)) × (Inside (around w i) → hollow ≡ hollowOf at (around w i) → r .area ≡ cond (ledge (standOf st) at (around w i)) 0 area)) ⌝ }
+{
+    let need = wide(st.top) + wide(st.height);
+    if area == 0 {
+        return Judged { area: 0, sides };
+    }
+    if wide(st.roof) < need {
+        return Judged { area, sides };
+    }
+    if need <= wide(hollow) {
+        return Judged { area: 0, sides };
+    }
+    let further = follow(floors, nexts, sides, need);
+    if looks_steep(floors, ceilings, nexts, further, st) {
+        return Judged {
+            area: 0,
+            sides: further,
+        };
+    }
+    Judged {
+        area,
+        sides: further,
+    }
+}
+
+// The lowest slots of the columns beside a column that is not at the rim.
+fn sides_of(heads: &[u32], width: usize, column: usize) -> Sides
+    requires { ⌜ (0 < column) × (width ≤ column) × (column + width < length (now heads)) × (column + 1 < length (now heads)) ⌝ }
+    ensures { λ r. ⌜ sidesOf r ≡ map (λ k. getD (now (heads .entry)) k 0) (around width column) ⌝ }
+{
+    Sides {
+        west: heads[column - 1],
+        north: heads[column + width],
+        east: heads[column + 1],
+        south: heads[column - width],
+    }
+}
+
+// The highest of the floors of the slots beside.
+fn hollow_of(floors: &[u16], sides: Sides) -> u16
+    requires { ⌜ ((nexts : List ℕ) × (length (now floors) ≡ length nexts) × (ceilings : List ℕ) × (areas : List ℕ) × (need : ℕ) × (at : ℕ → List Span) × (w : ℕ) × (i : ℕ) × Cursors (contents (now floors) ceilings areas) nexts need at (around w i) (sidesOf sides)) ⌝ }
+    ensures { λ r. ⌜ r ≡ greatest (map (roofAt (now (floors .entry))) (sidesOf sides)) ⌝ }
+{
+    let a = roof_of(floors, sides.west);
+    let b = roof_of(floors, sides.north);
+    let c = roof_of(floors, sides.east);
+    let d = roof_of(floors, sides.south);
+    greater(greater(a, b), greater(c, d))
+}
+
+// The filter on a column that is not at the rim.
+fn clear_inner(
+    heads: &[u32],
+    floors: &[u16],
+    ceilings: &[u16],
+    areas: &mut [u8],
+    nexts: &[u32],
+    width: usize,
+    column: usize,
+    height: u16,
+    climb: u16,
+)
+    requires { ⌜ (0 < column) × (width ≤ column) × (column + width < length (now heads)) × (column + 1 < length (now heads)) × (length (now heads) ≤ 1048576) ⌝ }
+    requires { ⌜ length (now areas) ≡ length (now nexts) ⌝ }
+    requires { ⌜ ((free : ℕ) × (areas₀ : List ℕ) × Held (now heads) (slots free (now floors) (now ceilings) areas₀ (now nexts))) ⌝ }
+    ensures { λ _. ⌜ ((free : ℕ) (areas₀ : List ℕ) (f : Field) → Holds (now (heads .entry)) (slots free (now (floors .entry)) (now (ceilings .entry)) areas₀ (now (nexts .entry))) f → (ss : List ℕ) → Chain (now (nexts .entry)) (getD (now (heads .entry)) column 0) ss → now (areas .exit) ≡ assign (now (areas .entry)) ss (ruled (λ below s above. firm height climb (spans f) (around width column) s above) [] (map (spanAt (contents (now (floors .entry)) (now (ceilings .entry)) (now (areas .entry)))) ss))) ⌝ }
+{
+    let mut at = heads[column];
+    let mut sides = sides_of(heads, width, column);
+    let hollow = hollow_of(floors, sides);
+    while at != NONE {
+        let i = index(at);
+        let next = nexts[i];
+        let roof = roof_of(floors, next);
+        let st = Stand {
+            top: ceilings[i],
+            roof,
+            height,
+            climb,
+        };
+        let judged = judge(floors, ceilings, nexts, sides, hollow, st, areas[i]);
+        areas[i] = judged.area;
+        sides = judged.sides;
+        at = next;
+    }
+}
+
+// The filter on a column at the rim, where every span is at a ledge.
+fn clear_all(areas: &mut [u8], nexts: &[u32], head: u32)
+    requires { ⌜ length (now areas) ≡ length (now nexts) ⌝ }
+    requires { ⌜ ((ss : List ℕ) × (Chain (now nexts) head ss × Distinct ss)) ⌝ }
+    ensures { λ _. ⌜ ((floors ceilings ss : List ℕ) → Chain (now (nexts .entry)) head ss → now (areas .exit) ≡ assign (now (areas .entry)) ss (ruled (λ below s above. 0) [] (map (spanAt (contents floors ceilings (now (areas .entry)))) ss))) ⌝ }
+{
+    let mut at = head;
+    while at != NONE {
+        let i = index(at);
+        areas[i] = 0;
+        at = nexts[i];
+    }
+}
+
+// A place on the grid.
+struct Cell {
+    x: usize,
+    z: usize,
+}
+
+fn on_rim(width: usize, depth: usize, c: Cell) -> bool
+    requires { ⌜ (c .x < width) × (c .z < depth) × (width * depth ≤ 1048576) ⌝ }
+    ensures { λ r. ⌜ Says r (Rim width depth (c .x) (c .z)) ⌝ }
+{
+    if c.x == 0 {
+        return true;
+    }
+    if depth <= c.z + 1 {
+        return true;
+    }
+    if width <= c.x + 1 {
+        return true;
+    }
+    c.z == 0
+}
+
+// The filter on one column.
+fn clear_column(
+    heads: &[u32],
+    floors: &[u16],
+    ceilings: &[u16],
+    areas: &mut [u8],
+    nexts: &[u32],
+    width: usize,
+    depth: usize,
+    c: Cell,
+    height: u16,
+    climb: u16,
+)
+    requires { ⌜ (c .x < width) × (c .z < depth) × (width * depth ≡ length (now heads)) × (width * depth ≤ 1048576) ⌝ }
+    requires { ⌜ length (now areas) ≡ length (now nexts) ⌝ }
+    requires { ⌜ ((free : ℕ) × (areas₀ : List ℕ) × Held (now heads) (slots free (now floors) (now ceilings) areas₀ (now nexts))) ⌝ }
+    ensures { λ _. ⌜ ((free : ℕ) (areas₀ : List ℕ) (f : Field) → Holds (now (heads .entry)) (slots free (now (floors .entry)) (now (ceilings .entry)) areas₀ (now (nexts .entry))) f → (ss : List ℕ) → Chain (now (nexts .entry)) (getD (now (heads .entry)) (c .x + c .z * width) 0) ss → now (areas .exit) ≡ assign (now (areas .entry)) ss (ruled (λ below s above. firm height climb (spans f) (beside width depth (c .x + c .z * width)) s above) [] (map (spanAt (contents (now (floors .entry)) (now (ceilings .entry)) (now (areas .entry)))) ss))) ⌝ }
+{
+    let column = c.x + c.z * width;
+    if on_rim(width, depth, c) {
+        clear_all(areas, nexts, heads[column]);
+    } else {
+        clear_inner(
+            heads,
+            floors,
+            ceilings,
+            areas,
+            nexts,
+            width,
+            column,
+            height,
+            climb,
+        );
+    }
+}
+
+// The place that follows, row by row.
+fn next_cell(width: usize, c: Cell) -> Cell
+    requires { ⌜ (c .x < width) × (width ≤ 1048576) × (c .z < 1048576) ⌝ }
+    ensures { λ r. ⌜ (r .x < width) × (r .x + r .z * width ≡ c .x + c .z * width + 1) ⌝ }
+{
+    if c.x + 1 == width {
+        return Cell { x: 0, z: c.z + 1 };
+    }
+    Cell { x: c.x + 1, z: c.z }
+}
+
+// The filter on a sound field of width × depth columns.
+pub(crate) fn clear_columns(
+    heads: &[u32],
+    floors: &[u16],
+    ceilings: &[u16],
+    areas: &mut [u8],
+    nexts: &[u32],
+    width: usize,
+    depth: usize,
+    height: u16,
+    climb: u16,
+)
+    requires { ⌜ (width * depth ≡ length (now heads)) × (width * depth ≤ 1048576) ⌝ }
+    requires { ⌜ ((free : ℕ) × Held (now heads) (slots free (now floors) (now ceilings) (now areas) (now nexts))) ⌝ }
+    ensures { λ _. ⌜ ((free : ℕ) (f : Field) → Holds (now (heads .entry)) (slots free (now (floors .entry)) (now (ceilings .entry)) (now (areas .entry)) (now (nexts .entry))) f → Holds (now (heads .entry)) (slots free (now (floors .entry)) (now (ceilings .entry)) (now (areas .exit)) (now (nexts .entry))) (ledges width depth height climb f)) ⌝ }
+{
+    let mut c = Cell { x: 0, z: 0 };
+    let mut i = 0;
+    while i < heads.len() {
+        clear_column(
+            heads,
+            floors,
+            ceilings,
+            areas,
+            nexts,
+            width,
+            depth,
+            c,
+            height,
+            climb,
+        );
+        c = next_cell(width, c);
+        i += 1;
+    }
+}
+
+// Makes the spans at a ledge unwalkable.
+pub fn filter_ledge_spans(
+    grid: Grid,
+    heads: &[u32],
+    free: &u32,
+    floors: &[u16],
+    ceilings: &[u16],
+    areas: &mut [u8],
+    nexts: &[u32],
+    marks: &mut [u8],
+    walkable_height: u16,
+    walkable_climb: u16,
+) -> Reply
+    ensures { λ r. ⌜ Filtered grid (ledges (width grid) (height grid) «walkable_height» «walkable_climb») (store (now (heads .entry)) (slots (now (free .entry)) (now (floors .entry)) (now (ceilings .entry)) (now (areas .entry)) (now (nexts .entry))) (now (marks .entry))) (left (saidOf r) (store (now (heads .entry)) (slots (now (free .entry)) (now (floors .entry)) (now (ceilings .entry)) (now (areas .exit)) (now (nexts .entry))) (now (marks .exit)))) ⌝ }
+{
+    let columns = heads.len();
+    let admission = admit(
+        grid,
+        heads,
+        *free,
+        floors,
+        ceilings,
+        areas,
+        nexts,
+        marks,
+        columns,
+    );
+    match admission {
+        Admission::Refused(r) => r,
+        Admission::Granted(width, height) => {
+            let n = columns_of(width, height);
+            clear_columns(
+                &heads[..n],
+                floors,
+                ceilings,
+                areas,
+                nexts,
+                index(width),
+                index(height),
+                walkable_height,
+                walkable_climb,
+            );
+            Reply::Accepted
+        }
+    }
+}
+
+// ---- low ceilings
+
+// The area of a span afterwards.
+fn lower(height: u16, roof: u16, ceiling: u16, area: u8) -> u8
+    ensures { λ r. ⌜ r ≡ cond (ltb roof (ceiling + height)) 0 area ⌝ }
+{
+    if wide(roof) < wide(ceiling) + wide(height) {
+        return 0;
+    }
+    area
+}
+
+// The filter on the column that starts at `head`.
+fn lower_column(
+    floors: &[u16],
+    ceilings: &[u16],
+    areas: &mut [u8],
+    nexts: &[u32],
+    head: u32,
+    height: u16,
+)
+    requires { ⌜ (length (now floors) ≡ length (now nexts)) × (length (now ceilings) ≡ length (now nexts)) × (length (now areas) ≡ length (now nexts)) ⌝ }
+    requires { ⌜ ((ss : List ℕ) × (Chain (now nexts) head ss × Distinct ss)) ⌝ }
+    ensures { λ _. ⌜ ((ss : List ℕ) → Chain (now (nexts .entry)) head ss → now (areas .exit) ≡ assign (now (areas .entry)) ss (ruled (λ below s above. roomed height s above) [] (map (spanAt (contents (now (floors .entry)) (now (ceilings .entry)) (now (areas .entry)))) ss))) ⌝ }
+{
+    let mut at = head;
+    while at != NONE {
+        let i = index(at);
+        let next = nexts[i];
+        let roof = roof_of(floors, next);
+        areas[i] = lower(height, roof, ceilings[i], areas[i]);
+        at = next;
+    }
+}
+
+// The filter on a sound field.
+pub(crate) fn lower_columns(
+    heads: &[u32],
+    floors: &[u16],
+    ceilings: &[u16],
+    areas: &mut [u8],
+    nexts: &[u32],
+    height: u16,
+)
+    requires { ⌜ ((free : ℕ) × Held (now heads) (slots free (now floors) (now ceilings) (now areas) (now nexts))) ⌝ }
+    ensures { λ _. ⌜ ((free : ℕ) (f : Field) → Holds (now (heads .entry)) (slots free (now (floors .entry)) (now (ceilings .entry)) (now (areas .entry)) (now (nexts .entry))) f → Holds (now (heads .entry)) (slots free (now (floors .entry)) (now (ceilings .entry)) (now (areas .exit)) (now (nexts .entry))) (lowCeilings height f)) ⌝ }
+{
+    let mut i = 0;
+    while i < heads.len() {
+        lower_column(floors, ceilings, areas, nexts, heads[i], height);
+        i += 1;
+    }
+}
+
+// Makes the spans unwalkable that have too little room above them.
+pub fn filter_walkable_low_height_spans(
+    grid: Grid,
+    heads: &[u32],
+    free: &u32,
+    floors: &[u16],
+    ceilings: &[u16],
+    areas: &mut [u8],
+    nexts: &[u32],
+    marks: &mut [u8],
+    walkable_height: u16,
+) -> Reply
+    ensures { λ r. ⌜ Filtered grid (lowCeilings «walkable_height») (store (now (heads .entry)) (slots (now (free .entry)) (now (floors .entry)) (now (ceilings .entry)) (now (areas .entry)) (now (nexts .entry))) (now (marks .entry))) (left (saidOf r) (store (now (heads .entry)) (slots (now (free .entry)) (now (floors .entry)) (now (ceilings .entry)) (now (areas .exit)) (now (nexts .entry))) (now (marks .exit)))) ⌝ }
+{
+    let columns = heads.len();
+    let admission = admit(
+        grid,
+        heads,
+        *free,
+        floors,
+        ceilings,
+        areas,
+        nexts,
+        marks,
+        columns,
+    );
+    match admission {
+        Admission::Refused(r) => r,
+        Admission::Granted(width, height) => {
+            let n = columns_of(width, height);
+            lower_columns(&heads[..n], floors, ceilings, areas, nexts, walkable_height);
+            Reply::Accepted
+        }
+    }
+}
