@@ -36,4 +36,14 @@ pub mod Ledging
 pub mod Admitting
 pub mod Offering
 pub mod Tried
+pub mod Lists
+pub mod Opening
+pub mod Tallying
+pub mod Laying
+pub mod Filling
+pub mod ReadingBack
+pub mod Layers
+pub mod Joining
+pub mod Sides
+pub mod CompactOne
 pub mod FilterCalls

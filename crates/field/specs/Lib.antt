@@ -13,3 +13,7 @@ pub mod Ledges
 pub mod LedgeTest
 pub mod Filters
 pub mod FilterCode
+pub mod Open
+pub mod Links
+pub mod Compact
+pub mod Rowing

@@ -7,28 +7,49 @@ use lib.Dec.{eqb}
 use Rattle.replies.specs.Said.{Said, Value, whole, real}
 use Rattle.rerecast.specs.Answer.{saidOf}
 use Rattle.rerecast.specs.declared.Reply.{Reply}
-use Rattle.rerecast.specs.declared.Reply.the-variants.{Accepted, BadNumber, BoxOrder, GridSize, Slices, Unsound, OffGrid, Inverted, NoSlot}
+use Rattle.rerecast.specs.declared.Reply.the-variants.{Accepted, BadNumber, BoxOrder, GridSize, Slices, Unsound, OffGrid, Inverted, NoSlot, Compacted, Layers, Crowded, SpansShort}
 
--- the floats among the values
-abbrev reals : List Value → Reply
-reals [] = Accepted
-reals (whole n ∷ vs) = Accepted
-reals (real x ∷ []) = BadNumber x
-reals (real x ∷ whole n ∷ vs) = Accepted
-reals (real w ∷ real h ∷ vs) = GridSize w h
+-- the answers that carry values, by the values alone
+abbrev accepting : List Value → Reply
+accepting [] = Accepted
+accepting (whole n ∷ vs) = Accepted
+accepting (real x ∷ vs) = Compacted x
 
--- the answers that carry nothing, by their numbers
-abbrev numbered : ℕ → Reply → Reply
-numbered n other =
-    cond (eqb n 2) BoxOrder
+abbrev outside : List Value → Reply
+outside [] = Accepted
+outside (whole n ∷ vs) = Accepted
+outside (real x ∷ vs) = BadNumber x
+
+abbrev sized : List Value → Reply
+sized [] = Accepted
+sized (whole n ∷ vs) = Accepted
+sized (real w ∷ []) = Accepted
+sized (real w ∷ whole n ∷ vs) = Accepted
+sized (real w ∷ real h ∷ vs) = GridSize w h
+
+abbrev layered : List Value → Reply
+layered [] = Accepted
+layered (real x ∷ vs) = Accepted
+layered (whole n ∷ []) = Accepted
+layered (whole n ∷ whole m ∷ vs) = Accepted
+layered (whole n ∷ real x ∷ vs) = Layers n x
+
+-- the answer with a number and values
+abbrev readBack : Said → Reply
+readBack s =
+    let n = s .number in
+    cond (eqb n 0) (accepting (s .values))
+    (cond (eqb n 1) (outside (s .values))
+    (cond (eqb n 2) BoxOrder
+    (cond (eqb n 3) (sized (s .values))
     (cond (eqb n 4) Slices
-    (cond (eqb n 14) Unsound
+    (cond (eqb n 5) NoSlot
     (cond (eqb n 8) OffGrid
     (cond (eqb n 9) Inverted
-    (cond (eqb n 5) NoSlot other)))))
-
-abbrev readBack : Said → Reply
-readBack s = numbered (s .number) (reals (s .values))
+    (cond (eqb n 11) Crowded
+    (cond (eqb n 12) (layered (s .values))
+    (cond (eqb n 14) Unsound
+    (cond (eqb n 15) SpansShort Accepted)))))))))))
 
 same : (r : Reply) → readBack (saidOf r) ≡ r
 same Accepted = refl
@@ -40,6 +61,10 @@ same Unsound = refl
 same OffGrid = refl
 same Inverted = refl
 same NoSlot = refl
+same (Compacted top) = refl
+same (Layers layer top) = refl
+same Crowded = refl
+same SpansShort = refl
 
 pub said-once : (a b : Reply) → saidOf a ≡ saidOf b → a ≡ b
 said-once a b e = sym (same a) ∙ ap readBack e ∙ same b

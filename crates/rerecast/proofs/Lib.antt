@@ -1,4 +1,7 @@
 pub mod Told
 pub mod Admitted
 pub mod Answers
+pub mod Compacting
+pub mod Around
+pub mod CompactCall
 pub mod Filtered

@@ -1,8 +1,8 @@
 -- What an answer says: the number and the values of the rules for each.
 use mathlib.Core.List.{[], _∷_}
-use Rattle.replies.specs.Said.{Said, real, say, just}
+use Rattle.replies.specs.Said.{Said, whole, real, say, just}
 use Rattle.rerecast.specs.declared.Reply.{Reply}
-use Rattle.rerecast.specs.declared.Reply.the-variants.{Accepted, BadNumber, BoxOrder, GridSize, Slices, Unsound, OffGrid, Inverted, NoSlot}
+use Rattle.rerecast.specs.declared.Reply.the-variants.{Accepted, BadNumber, BoxOrder, GridSize, Slices, Unsound, OffGrid, Inverted, NoSlot, Compacted, Layers, Crowded, SpansShort}
 
 abbrev pub saidOf : Reply → Said
 saidOf Accepted = just 0
@@ -14,3 +14,7 @@ saidOf Unsound = just 14
 saidOf OffGrid = just 8
 saidOf Inverted = just 9
 saidOf NoSlot = just 5
+saidOf (Compacted top) = say 0 (real top ∷ [])
+saidOf (Layers layer top) = say 12 (whole layer ∷ real top ∷ [])
+saidOf Crowded = just 11
+saidOf SpansShort = just 15

@@ -1,6 +1,7 @@
 // The build over lent slices, module by module as in the Rust. Whoever calls lends every slice, and no call asks for anything: what does not fit is
 // answered with its number.
 mod admission;
+pub mod compact_heightfield;
 pub mod heightfield;
 mod insertion;
 mod ledges;
@@ -21,4 +22,10 @@ pub enum Reply {
     OffGrid,
     Inverted,
     NoSlot,
+    // the compact result is complete, and its box ends at this y
+    Compacted(f32),
+    // the same, but for links that would lead to a layer of 63 or more, of which this is the largest
+    Layers(u8, f32),
+    Crowded,
+    SpansShort,
 }
