@@ -92,11 +92,11 @@ Compacts w h top tall climb s t o =
     (f : Field)
     × Holds (take (w * h) (s .heads)) (s .slots) f
     × (let pass = passes tall climb in
-       let cs = cells (columnsOf f) in
-       Asks (Few cs) (keeping t (just 11) (cleared s))
-       (Asks (Room (length (flatten cs)) (t .rows)) (keeping t (just 15) (cleared s))
-       (λ o. o ≡ outcome (completeSays (largestMissed pass w h cs) top) (cleared s) (complete pass w h (columnsOf f) t)))
-       o)
+    let cs = cells (columnsOf f) in
+    Asks (Few cs) (keeping t (just 11) (cleared s))
+    (Asks (Room (length (flatten cs)) (t .rows)) (keeping t (just 15) (cleared s))
+    (λ o. o ≡ outcome (completeSays (largestMissed pass w h cs) top) (cleared s) (complete pass w h (columnsOf f) t)))
+    o)
 
 -- 1, 2, 3, 4, 14, then these
 abbrev pub Compacted : Grid → ℕ → ℕ → Store → Result → Outcome → Type 0

@@ -12,7 +12,7 @@ use Rattle.field.specs.Links.{passes, around, wordOf, missedOf}
 use Rattle.field.specs.Rowing.{shownAt, bare, Cell, Shown}
 use Rattle.field.proofs.Sides.{Beside, beside-shown, beside-inside, word-bare, missed-of-bare}
 use Rattle.rerecast.specs.Compacting.{sideOf, layersOf, Within}
-use Rattle.rerecast.specs.declared.compact_heightfield.Side.{Side}
+use Rattle.rerecast.specs.declared.links.Side.{Side}
 
 module _ {cs : List (List Open)} {ix sz ys ws : List ℕ} (S : Shown cs ix sz ys ws) where
   -- each number is a column's, or none

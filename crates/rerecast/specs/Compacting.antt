@@ -11,8 +11,8 @@ use Rattle.field.specs.Compact.{Few}
 use Rattle.field.specs.Rowing.{shown}
 use Rattle.rerecast.specs.declared.compact_heightfield.Tally.{Tally}
 use Rattle.rerecast.specs.declared.compact_heightfield.Tally.the-variants.{Crowded, Total}
-use Rattle.rerecast.specs.declared.compact_heightfield.Side.{Side}
-use Rattle.rerecast.specs.declared.compact_heightfield.Around.{Around}
+use Rattle.rerecast.specs.declared.links.Side.{Side}
+use Rattle.rerecast.specs.declared.links.Around.{Around}
 
 -- the open spaces are counted, or some column has too many
 abbrev pub Tallies : Tally → List (List Open) → Type 0

@@ -5,6 +5,7 @@ pub mod compact_heightfield;
 pub mod heightfield;
 mod insertion;
 mod ledges;
+mod links;
 pub mod pre_filter;
 mod slices;
 mod soundness;

@@ -56,15 +56,14 @@ loop-less : tie.Need-loop-less Inv-loop μ-loop
 loop-less c = omega arith
 
 loop-again : tie.Need-loop-again Inv-loop μ-loop
-loop-again c =
-    (
-      omega arith,
-      omega arith,
-      λ free fl ce f H.
+loop-again c = (
+  omega arith,
+  omega arith,
+  λ free fl ce f H.
       let l = c .before .before .before .loop-test .taken in
       rw (add-one (c .before .before .before .before .loop .i))
       (adding-step (c .before .before .before .before .loop .inv .2 free fl ce f H) (omega (arith, cells-wide H)) (counted H l (c .before .count-column .ensures)) (c .if1 .left)),
-    )
+)
 
 returns-2 : tie.Need-returns-2 Inv-loop μ-loop
 returns-2 c = λ free fl ce f H. adding-end (c .before .loop .inv .2 free fl ce f H) (omega (arith, cells-wide H))

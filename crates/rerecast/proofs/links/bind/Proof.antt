@@ -3,11 +3,11 @@ use mathlib.Core.List.{List}
 use Rattle.field.specs.Open.{Open, space}
 use Rattle.field.specs.Links.{passes}
 use Rattle.field.specs.Rowing.{shown}
-use Rattle.rerecast.specs.declared.compact_heightfield.Side.{Side}
+use Rattle.rerecast.specs.declared.links.Side.{Side}
 use Rattle.rerecast.proofs.Compacting.{bound-word, bound-missed}
 use borrow.Author.Needs.{needs}
-use Rattle.rerecast.proofs.compact_heightfield.bind.Statement.{statement}
-use Rattle.rerecast.proofs.compact_heightfield.bind.Tie as tie
+use Rattle.rerecast.proofs.links.bind.Statement.{statement}
+use Rattle.rerecast.proofs.links.bind.Tie as tie
 
 link-to-requires : tie.Need-link-to-requires
 link-to-requires c κs = search needs

@@ -14,8 +14,8 @@ use Rattle.field.proofs.Joining.{Joining, joining-start, joining-step, joining-
 use Rattle.field.proofs.Sides.{word-height}
 use Rattle.rerecast.proofs.Around.{sides-within, word-is, missed-is}
 use borrow.Author.Needs.{needs}
-use Rattle.rerecast.proofs.compact_heightfield.link_column.Statement.{statement}
-use Rattle.rerecast.proofs.compact_heightfield.link_column.Tie as tie
+use Rattle.rerecast.proofs.links.link_column.Statement.{statement}
+use Rattle.rerecast.proofs.links.link_column.Tie as tie
 
 abbrev Inv-loop : tie.InvT-loop
 Inv-loop cell-indices cell-counts ys data₀ width depth column tall climb missed sides first n l₀ most₀ «data» l most =
@@ -115,18 +115,18 @@ loop-again c =
       p .1,
       length-set (c .before .before .before .before .before .before .before .loop .«data») _ _ ∙ p .2,
       λ cs e S.
-      let k = cell-now (c .before .before .before .before .before .before .before) cs e S in
-      let o = getD (getD cs (s .column) []) (c .before .before .before .before .before .before .before .loop .l) nowhere in
-      let eo = layer-is k (c .before .before .before .before .before .before .before .loop .l) h in
-      let S′ = shown-now (c .before .before .before .before .before .before .before) cs e S in
-      let es = c .before .before .before .before .before .before .before .before .before .before .before .around-column .ensures in
-      let l = c .before .before .before .before .before .before .before .before .before .before .before .before .before .before .before .before .pre .0 .0 in
-      let w = word-is S′ (s .width) (s .depth) (s .column) e l es (s .tall) (s .climb) o eo (b .0) in
-      let m = missed-is S′ (s .width) (s .depth) (s .column) e l es (s .tall) (s .climb) o eo (b .1) in
-      rw (add-one (c .before .before .before .before .before .before .before .loop .l), i)
-      (joining-step (p .3 cs e S) (omega (arith, h, k .count)) (omega (arith, h, k .in-words)) w
-      (ap heightOf w ∙ word-height (passes (s .tall) (s .climb)) (around (s .width) (s .depth) cs (s .column)) o refl ∙ sym (ap (λ (q : Open). q .height) eo))
-      (c .greater-layer .ensures ∙ ap (max (c .before .before .before .before .before .before .before .loop .most)) m)),
+          let k = cell-now (c .before .before .before .before .before .before .before) cs e S in
+          let o = getD (getD cs (s .column) []) (c .before .before .before .before .before .before .before .loop .l) nowhere in
+          let eo = layer-is k (c .before .before .before .before .before .before .before .loop .l) h in
+          let S′ = shown-now (c .before .before .before .before .before .before .before) cs e S in
+          let es = c .before .before .before .before .before .before .before .before .before .before .before .around-column .ensures in
+          let l = c .before .before .before .before .before .before .before .before .before .before .before .before .before .before .before .before .pre .0 .0 in
+          let w = word-is S′ (s .width) (s .depth) (s .column) e l es (s .tall) (s .climb) o eo (b .0) in
+          let m = missed-is S′ (s .width) (s .depth) (s .column) e l es (s .tall) (s .climb) o eo (b .1) in
+          rw (add-one (c .before .before .before .before .before .before .before .loop .l), i)
+          (joining-step (p .3 cs e S) (omega (arith, h, k .count)) (omega (arith, h, k .in-words)) w
+          (ap heightOf w ∙ word-height (passes (s .tall) (s .climb)) (around (s .width) (s .depth) cs (s .column)) o refl ∙ sym (ap (λ (q : Open). q .height) eo))
+          (c .greater-layer .ensures ∙ ap (max (c .before .before .before .before .before .before .before .loop .most)) m)),
     )
 
 same-length : tie.Need-same-length Inv-loop μ-loop

@@ -7,8 +7,8 @@ use Rattle.field.specs.Links.{passes, lowest}
 use Rattle.field.specs.Rowing.{shownAt, shown}
 use Rattle.field.proofs.Layers.{rest, rest-start, lowest-hit, lowest-miss, lowest-end}
 use borrow.Author.Needs.{needs}
-use Rattle.rerecast.proofs.compact_heightfield.lowest_layer.Statement.{statement}
-use Rattle.rerecast.proofs.compact_heightfield.lowest_layer.Tie as tie
+use Rattle.rerecast.proofs.links.lowest_layer.Statement.{statement}
+use Rattle.rerecast.proofs.links.lowest_layer.Tie as tie
 
 abbrev Inv-loop : tie.InvT-loop
 Inv-loop ys «data» first n q l₀ l =
@@ -69,7 +69,7 @@ loop-again c =
       omega (arith, c .before .before .before .before .before .loop-test .taken),
       c .before .before .before .before .before .before .loop .inv .1,
       sym (lowest-miss (s .ys .now) (s .«data» .now) (s .first) (s .n) (passes (s .q .tall) (s .q .climb) (space (s .q .y) (s .q .height) 0)) (c .before .before .before .before .before .before .loop .l) (c .before .before .before .before .before .loop-test .taken) (sym (test (c .before)) ∙ c .if1 .left))
-      ∙ c .before .before .before .before .before .before .loop .inv .2,
+          ∙ c .before .before .before .before .before .before .loop .inv .2,
     )
 
 returns-2 : tie.Need-returns-2 Inv-loop μ-loop

@@ -7,8 +7,8 @@ use Rattle.field.specs.Links.{passes, largest}
 use Rattle.field.specs.Rowing.{shownAt, shown}
 use Rattle.field.proofs.Layers.{rest, largest-next, largest-end}
 use borrow.Author.Needs.{needs}
-use Rattle.rerecast.proofs.compact_heightfield.largest_layer.Statement.{statement}
-use Rattle.rerecast.proofs.compact_heightfield.largest_layer.Tie as tie
+use Rattle.rerecast.proofs.links.largest_layer.Statement.{statement}
+use Rattle.rerecast.proofs.links.largest_layer.Tie as tie
 
 abbrev Inv-loop : tie.InvT-loop
 Inv-loop ys «data» first n q l₀ best₀ l best =
@@ -64,8 +64,8 @@ loop-again c =
       omega (arith, c .before .before .before .before .before .loop-test .taken),
       c .before .before .before .before .before .before .loop .inv .1,
       rw (c .better .ensures, test (c .before))
-      (sym (largest-next (s .ys .now) (s .«data» .now) (s .first) (s .n) (passes (s .q .tall) (s .q .climb) (space (s .q .y) (s .q .height) 0)) (c .before .before .before .before .before .before .loop .l) (c .before .before .before .before .before .before .loop .best) (c .before .before .before .before .before .loop-test .taken))
-      ∙ c .before .before .before .before .before .before .loop .inv .2),
+          (sym (largest-next (s .ys .now) (s .«data» .now) (s .first) (s .n) (passes (s .q .tall) (s .q .climb) (space (s .q .y) (s .q .height) 0)) (c .before .before .before .before .before .before .loop .l) (c .before .before .before .before .before .before .loop .best) (c .before .before .before .before .before .loop-test .taken))
+          ∙ c .before .before .before .before .before .before .loop .inv .2),
     )
 
 returns : tie.Need-returns Inv-loop μ-loop

@@ -9,8 +9,8 @@ use Rattle.field.specs.Open.{Open}
 use Rattle.field.specs.Links.{passes, around, wordOf, missedOf}
 use Rattle.field.specs.Rowing.{Shown}
 use Rattle.field.proofs.Joining.{Threading, threading-start, threading-step, threading-end}
-use Rattle.rerecast.proofs.compact_heightfield.link_columns.Statement.{statement}
-use Rattle.rerecast.proofs.compact_heightfield.link_columns.Tie as tie
+use Rattle.rerecast.proofs.links.link_columns.Statement.{statement}
+use Rattle.rerecast.proofs.links.link_columns.Tie as tie
 
 abbrev Inv-loop : tie.InvT-loop
 Inv-loop cell-indices cell-counts ys data₀ width depth tall climb total i₀ most₀ «data» i most =
@@ -47,9 +47,9 @@ loop-again c =
       omega (arith, h),
       c .before .before .link-column .kept .1 .1 .1 .0 ∙ p .1,
       λ cs e S.
-      let q = p .2 cs e S in
-      let r = c .before .before .link-column .ensures cs e (q .rows) in
-      rw (add-one (c .before .before .before .before .before .loop .i)) (threading-step q (omega (arith, h)) (r .0) (r .1) (r .2)),
+          let q = p .2 cs e S in
+          let r = c .before .before .link-column .ensures cs e (q .rows) in
+          rw (add-one (c .before .before .before .before .before .loop .i)) (threading-step q (omega (arith, h)) (r .0) (r .1) (r .2)),
     )
 
 same-length : tie.Need-same-length Inv-loop μ-loop

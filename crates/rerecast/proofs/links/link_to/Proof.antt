@@ -6,8 +6,8 @@ use Rattle.field.specs.Links.{passes, link}
 use Rattle.field.specs.Rowing.{shown}
 use Rattle.field.proofs.Layers.{link-shown, missed-linked, missed-short, missed-shown}
 use borrow.Author.Needs.{needs}
-use Rattle.rerecast.proofs.compact_heightfield.link_to.Statement.{statement}
-use Rattle.rerecast.proofs.compact_heightfield.link_to.Tie as tie
+use Rattle.rerecast.proofs.links.link_to.Statement.{statement}
+use Rattle.rerecast.proofs.links.link_to.Tie as tie
 
 linked : (c : tie.After-lowest-layer) → let s = c .before .before .before .before .args in c .lowest-layer .result ≡ link (passes (s .q .tall) (s .q .climb) (space (s .q .y) (s .q .height) 0)) (shown (s .ys .now) (s .«data» .now) (s .side .first) (s .side .count))
 linked c =

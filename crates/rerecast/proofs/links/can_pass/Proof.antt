@@ -2,8 +2,8 @@
 use mathlib.Core.Path.{sym, _∙_}
 use borrow.Author.Tests.{lt-leb, le-leb, not-true, not-false}
 use borrow.Author.Needs.{needs}
-use Rattle.rerecast.proofs.compact_heightfield.can_pass.Statement.{statement}
-use Rattle.rerecast.proofs.compact_heightfield.can_pass.Tie as tie
+use Rattle.rerecast.proofs.links.can_pass.Statement.{statement}
+use Rattle.rerecast.proofs.links.can_pass.Tie as tie
 
 greater-requires : tie.Need-greater-requires
 greater-requires c κs = search needs
