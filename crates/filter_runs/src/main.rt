@@ -4,7 +4,6 @@ use grid::Corner;
 use grid::Grid;
 use rerecast::Reply;
 use rerecast::pre_filter;
-ghost use Prim.Native.Nat.{_≤_};
 
 fn say(s: &[u8]) {
     io::write_all(1, s);
@@ -14,7 +13,11 @@ fn say_number(n: u64) {
     io::print_decimal(1, n);
 }
 
-// A number in a field of four.
+fn say_byte(b: u8) {
+    say_number(b as u64);
+}
+
+// An area in a field of four.
 fn say_area(area: u8) {
     if area < 10 {
         say(b"   ");
@@ -23,16 +26,11 @@ fn say_area(area: u8) {
     } else {
         say(b" ");
     }
-    say_number(area as u64);
+    say_byte(area);
 }
 
 fn number(r: Reply) -> u64 {
-    match r {
-        Reply::Accepted => 0,
-        Reply::Slices => 4,
-        Reply::Unsound => 14,
-        _ => 99,
-    }
+    r.number() as u64
 }
 
 // A square of cells, `side` wide and deep.
@@ -106,9 +104,9 @@ fn try_nine(name: &[u8], ceilings: [u16; 10], free: u32, climb: u16) {
     say(b": reply ");
     say_number(number(reply));
     say(b", first mark ");
-    say_number(m[0] as u64);
+    say_byte(m[0]);
     say(b", free slot's area ");
-    say_number(a[9] as u64);
+    say_byte(a[9]);
     say(b"\n");
     say_row(a[0], a[1], a[2]);
     say_row(a[3], a[4], a[5]);
@@ -169,16 +167,13 @@ fn try_obstacles(name: &[u8], climb: u16) {
     say_three(name, Three { reply, areas });
 }
 
-// The highest span has the open top above it, and the others the next floor. One mark is lent for each slot, or one too few.
-fn try_ceilings(name: &[u8], height: u16, lent: usize)
-    requires { ⌜ lent ≤ 3 ⌝ }
-{
+// The highest span has the open top above it, and the others the next floor.
+fn try_ceilings(name: &[u8], marks: &mut [u8], height: u16) {
     let heads: [u32; 1] = [0];
     let floors: [u16; 3] = [0, 7, 65530];
     let ceilings: [u16; 3] = [1, 65520, 65530];
     let nexts: [u32; 3] = [1, 2, NONE];
     let mut areas: [u8; 3] = [7, 8, 9];
-    let mut marks = [1u8; 3];
     let reply = pre_filter::filter_walkable_low_height_spans(
         square(1.0),
         &heads,
@@ -187,7 +182,7 @@ fn try_ceilings(name: &[u8], height: u16, lent: usize)
         &ceilings,
         &mut areas,
         &nexts,
-        &mut marks[..lent],
+        marks,
         height,
     );
     say_three(name, Three { reply, areas });
@@ -198,10 +193,12 @@ fn try_columns() {
     try_obstacles(b"  climb 3", 3);
     try_obstacles(b"  climb 2", 2);
     say(b"low ceilings: [0,1] area 7, [7,65520] area 8, [65530,65530] area 9\n");
-    try_ceilings(b"  walkable height 5", 5, 3);
-    try_ceilings(b"  walkable height 6", 6, 3);
-    try_ceilings(b"  walkable height 7", 7, 3);
-    try_ceilings(b"  walkable height 7, a mark too few", 7, 2);
+    let mut three = [1u8; 3];
+    let mut two = [1u8; 2];
+    try_ceilings(b"  walkable height 5", &mut three, 5);
+    try_ceilings(b"  walkable height 6", &mut three, 6);
+    try_ceilings(b"  walkable height 7", &mut three, 7);
+    try_ceilings(b"  walkable height 7, a mark too few", &mut two, 7);
 }
 
 fn main() {

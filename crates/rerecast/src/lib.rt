@@ -10,6 +10,9 @@ pub mod pre_filter;
 mod slices;
 mod soundness;
 
+ghost use mathlib.Core.Path.{_≡_};
+ghost use Rattle.rerecast.specs.Answer.{saidOf};
+
 // What a call answers. specs/Answer.antt gives the number and the values of each.
 pub enum Reply {
     Accepted,
@@ -29,4 +32,27 @@ pub enum Reply {
     Layers(u8, f32),
     Crowded,
     SpansShort,
+}
+
+impl Reply {
+    // The number that the rules have for an answer.
+    pub fn number(self) -> u32
+        ensures { λ r. ⌜ r ≡ saidOf self .number ⌝ }
+    {
+        match self {
+            Reply::Accepted => 0,
+            Reply::BadNumber(_) => 1,
+            Reply::BoxOrder => 2,
+            Reply::GridSize(_, _) => 3,
+            Reply::Slices => 4,
+            Reply::Unsound => 14,
+            Reply::OffGrid => 8,
+            Reply::Inverted => 9,
+            Reply::NoSlot => 5,
+            Reply::Compacted(_) => 0,
+            Reply::Layers(_, _) => 12,
+            Reply::Crowded => 11,
+            Reply::SpansShort => 15,
+        }
+    }
 }

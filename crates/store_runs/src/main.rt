@@ -37,17 +37,7 @@ fn say_number(n: u64) {
 }
 
 fn number(r: Reply) -> u64 {
-    match r {
-        Reply::Accepted => 0,
-        Reply::BadNumber(_) => 1,
-        Reply::BoxOrder => 2,
-        Reply::GridSize(_, _) => 3,
-        Reply::Slices => 4,
-        Reply::NoSlot => 5,
-        Reply::OffGrid => 8,
-        Reply::Inverted => 9,
-        Reply::Unsound => 14,
-    }
+    r.number() as u64
 }
 
 // A grid of cells of one size, one cell high, from the origin up to x and y.

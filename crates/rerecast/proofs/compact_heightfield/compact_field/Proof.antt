@@ -33,7 +33,7 @@ counted c free f H =
 room : (c : tie.Else1) → let s = c .before .before .before .before .before .before .before .before .before .before .before .before .before .before .before .before .before .before .args in (free : ℕ) (f : Field) → Holds (take (s .width * s .height) (s .heads .now)) (slots free (s .floors .now) (s .ceilings .now) (s .areas .now) (s .nexts .now)) f → Room (length (flatten (cells (columnsOf f)))) (rows (s .ys .now) (s .«data» .now) (s .span-areas .now))
 room c free f H =
     let s = c .before .before .before .before .before .before .before .before .before .before .before .before .before .before .before .before .before .before .args in
-    let p = says-true {P = Fits3 (c .before .before .before .tally .given .0 .0) (s .ys .now) (s .«data» .now) (s .span-areas .now)} _ (c .if1 .left) (c .before .has-room .ensures) in
+    let p = says-true {P = Fits3 (c .before .before .before .tally .given .0 .0) (s .ys .now) (s .«data» .now) (s .span-areas .now)} (c .before .has-room .result) (c .if1 .left) (c .before .has-room .ensures) in
     let k = counted (c .before .before .before) free f H in
     let e = k .1 in
     record { ys = omega (arith, e, p .0); words = omega (arith, e, p .1); areas = omega (arith, e, p .2) }
@@ -73,7 +73,7 @@ returns-2 c =
     let H = K .1 in
     let k = counted (c .before .before .before) free (K .0) H in
     ends-short (s .width) (s .height) (s .top) (s .tall) (s .climb) (store (s .heads .now) (slots free (s .floors .now) (s .ceilings .now) (s .areas .now) (s .nexts .now)) marks) (result (s .cell-indices .now) (s .cell-counts .now) (rows (s .ys .now) (s .«data» .now) (s .span-areas .now))) (K .0) H (k .0)
-    (λ r. says-false {P = Fits3 (c .before .before .before .tally .given .0 .0) (s .ys .now) (s .«data» .now) (s .span-areas .now)} _ (c .if1 .taken) (c .before .has-room .ensures) (rw (k .1) (r .ys, r .words, r .areas)))
+    (λ r. says-false {P = Fits3 (c .before .before .before .tally .given .0 .0) (s .ys .now) (s .«data» .now) (s .span-areas .now)} (c .before .has-room .result) (c .if1 .taken) (c .before .has-room .ensures) (rw (k .1) (r .ys, r .words, r .areas)))
 
 slice-aggregate-complete-columns : tie.Need-slice-aggregate-complete-columns
 slice-aggregate-complete-columns c = sym (length-take-le (c .before .before .before .before .before .before .before .before .columns-of .result) (c .before .before .before .before .before .before .before .before .before .before .before .before .before .before .before .before .before .before .before .args .heads .now) (omega (arith, c .before .before .before .before .before .before .before .before .columns-of .ensures, c .before .before .before .before .before .before .before .before .before .before .before .before .before .before .before .before .before .before .before .pre .0 .0 .0)))

@@ -66,10 +66,11 @@ returns-2 : tie.Need-returns-2
 unfolding freshSpan
 returns-2 c =
     let z = ne-eqb _ _ (c .before .before .before .before .before .before .if1 .left) in
+    let s = c .before .before .before .before .before .before .before .before .before .before .before .before .before .args in
     let p = c .before .before .before .before .before .before .before .before .before .before .before .before .before .pre .1 in (
       rw z,
       rw (z, c .before .before .before .before .new .ensures, c .before .before .before .before .before .gap .ensures),
-      rw z (c .before .before .raise-at .ensures .0 ∙ raised-once _ _ _ (p .0) (p .1) (count (c .before .before .before .before .before .before))),
+      rw z (c .before .before .raise-at .ensures .0 ∙ raised-once (s .cell-indices .now) (s .cell-counts .now) (s .column) (p .0) (p .1) (count (c .before .before .before .before .before .before))),
     )
 
 pub place-spec : {M : Type 1} → statement M
