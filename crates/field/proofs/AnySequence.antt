@@ -23,7 +23,7 @@ use Rattle.field.proofs.Refusal.{refused-exactly}
 use Rattle.field.proofs.Order.{covers-lists, lists-fixed}
 use Rattle.field.proofs.Standing.{Standing, cell-below, first-long, admitted, history-stands}
 
--- The store holds a sound field, each column of which lists, ascending and each once, exactly the stretches of the spans accepted there.
+-- The store holds a sound field. A column of it lists from the lowest up, and without repeats, the stretches of the spans that it accepted, and nothing else.
 pub columns-list-stretches : (g : Grid) (s : Store) → Begins g s → {steps : List Step} {t : Store} → History g s steps t
     → (f : Field) × Holds (take (columns g) (t .heads)) (t .slots) f × ((i : ℕ) → i < columns g → Lists (map range (acceptedIn g i steps)) (ranges f i))
 columns-list-stretches g s b h =
@@ -71,8 +71,7 @@ module _ {g : Grid} {A : ℕ → List Span} {s : Store} (S : Standing g A s) (x 
       let k = inserts d in
       rw (field-fixed H (S .holds)) (exactly (k .0) (field-fixed (S .holds) (k .1)) (k .2))
 
--- A span inside the grid, its floor not above its ceiling, is refused exactly when it shares no height with its column and the stretches of all columns
--- together fill the store.
+-- A well-formed span on the grid is refused in one case only: it touches no height of its column, and the stretches of all columns fill the store.
 pub refused-exactly-when-full : (g : Grid) (s : Store) → Begins g s → {steps : List Step} {t : Store} → History g s steps t
     → (f : Field) → Holds (take (columns g) (t .heads)) (t .slots) f
     → (x z : ℕ) (new : Span) (threshold : ℕ) → x < width g → z < height g → new .floor ≤ new .ceiling

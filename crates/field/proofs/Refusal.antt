@@ -1,4 +1,4 @@
--- A span is refused exactly when it shares no height with its column and the spans of all columns together fill the store.
+-- A span is refused in one case only: it touches no height of its column, and the spans of all columns fill the store.
 use mathlib.Core.Path.{_≡_, refl, sym, ap, _∙_}
 use mathlib.Core.Logic.{inl, inr, ⊎-elim, _↔_}
 use mathlib.Core.Bool.{false}

@@ -49,7 +49,7 @@ filtered rule f =
 
 -- ---- low obstacles
 
--- An unwalkable span takes the area of the span below if that one was walkable and the ceilings differ by at most the climb.
+-- An unwalkable span takes the area of the one below it, where that one was walkable and their ceilings are no further apart than the climb.
 abbrev pub raised : ℕ → List Span → Span → ℕ
 raised climb [] s = s .area
 raised climb (b ∷ below) s =

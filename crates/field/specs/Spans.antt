@@ -46,8 +46,8 @@ merges e w = record { passed = w .passed; merged = e ∷ w .merged; above = w .a
 abbrev pub stops : {E : Type 0} → Span → List E → Walk E
 stops new es = record { passed = []; merged = []; above = es; span = new }
 
--- The walk, from the lowest span up, where `at e` is the span at `e`: one whose ceiling is below the new floor is passed, one whose floor is above the
--- new ceiling ends the walk, and any other merges.
+-- The walk, from the lowest span up, where `at e` is the span at `e`: a span that ends under the new floor is passed, one that starts over the new
+-- ceiling ends the walk, and any other merges.
 abbrev pub walkUp : {E : Type 0} → (E → Span) → ℕ → Span → List E → Walk E
 walkUp at threshold new [] = stops new []
 walkUp at threshold new (e ∷ es) =
