@@ -47,3 +47,9 @@ pub mod Joining
 pub mod Sides
 pub mod CompactOne
 pub mod FilterCalls
+pub mod Carrying
+pub mod Slicing
+pub mod Cells
+pub mod Meshing
+pub mod Taking
+pub mod MeshOutcomes

@@ -17,3 +17,6 @@ pub mod Open
 pub mod Links
 pub mod Compact
 pub mod Rowing
+pub mod Carrying
+pub mod Meshes
+pub mod Working

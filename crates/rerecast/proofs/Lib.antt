@@ -5,3 +5,4 @@ pub mod Compacting
 pub mod Around
 pub mod CompactCall
 pub mod Filtered
+pub mod Rasterizing

@@ -2,7 +2,7 @@
 use mathlib.Core.List.{[], _∷_}
 use Rattle.replies.specs.Said.{Said, whole, real, say, just}
 use Rattle.rerecast.specs.declared.Reply.{Reply}
-use Rattle.rerecast.specs.declared.Reply.the-variants.{Accepted, BadNumber, BoxOrder, GridSize, Slices, Unsound, OffGrid, Inverted, NoSlot, Compacted, Layers, Crowded, SpansShort}
+use Rattle.rerecast.specs.declared.Reply.the-variants.{Accepted, BadNumber, BoxOrder, GridSize, Slices, Unsound, OffGrid, Inverted, NoSlot, Compacted, Layers, Crowded, SpansShort, NoVertex, NoSlotAt, EighthVertex, TooHigh}
 
 abbrev pub saidOf : Reply → Said
 saidOf Accepted = just 0
@@ -18,3 +18,7 @@ saidOf (Compacted top) = say 0 (real top ∷ [])
 saidOf (Layers layer top) = say 12 (whole layer ∷ real top ∷ [])
 saidOf Crowded = just 11
 saidOf SpansShort = just 15
+saidOf NoVertex = just 10
+saidOf (NoSlotAt t made) = say 5 (whole t ∷ whole made ∷ [])
+saidOf (EighthVertex t made) = say 6 (whole t ∷ whole made ∷ [])
+saidOf (TooHigh t made) = say 7 (whole t ∷ whole made ∷ [])

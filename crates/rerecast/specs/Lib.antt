@@ -2,3 +2,4 @@ pub mod Answer
 pub mod Inner
 pub mod Compacting
 pub mod PreFilter
+pub mod Rasterize

@@ -7,6 +7,8 @@ mod insertion;
 mod ledges;
 mod links;
 pub mod pre_filter;
+mod rasterize;
+mod rows;
 mod slices;
 mod soundness;
 
@@ -32,6 +34,12 @@ pub enum Reply {
     Layers(u8, f32),
     Crowded,
     SpansShort,
+    // a triangle index names no vertex
+    NoVertex,
+    // a mesh stopped: the triangle, and how many of its insertions were made
+    NoSlotAt(u32, u32),
+    EighthVertex(u32, u32),
+    TooHigh(u32, u32),
 }
 
 impl Reply {
@@ -53,6 +61,10 @@ impl Reply {
             Reply::Layers(_, _) => 12,
             Reply::Crowded => 11,
             Reply::SpansShort => 15,
+            Reply::NoVertex => 10,
+            Reply::NoSlotAt(_, _) => 5,
+            Reply::EighthVertex(_, _) => 6,
+            Reply::TooHigh(_, _) => 7,
         }
     }
 }
