@@ -20,6 +20,7 @@ pub mod Marking
 pub mod Surveying
 pub mod Judging
 pub mod Outcomes
+pub mod Growing
 pub mod Standing
 pub mod AnySequence
 pub mod Beside

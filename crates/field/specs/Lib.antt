@@ -4,7 +4,6 @@ pub mod Field
 pub mod Stretches
 pub mod Store
 pub mod Calls
-pub mod History
 pub mod Inner
 pub mod Marks
 pub mod Walkable
@@ -20,4 +19,5 @@ pub mod Rowing
 pub mod Carrying
 pub mod Meshes
 pub mod Populate
+pub mod History
 pub mod Working
