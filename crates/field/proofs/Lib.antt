@@ -1,4 +1,5 @@
 pub mod Basics
+pub mod Agreeing
 pub mod Counting
 pub mod Chains
 pub mod Contents
@@ -36,7 +37,6 @@ pub mod Cursors
 pub mod Ledging
 pub mod Admitting
 pub mod Offering
-pub mod Tried
 pub mod Lists
 pub mod Opening
 pub mod Tallying
