@@ -46,6 +46,12 @@ pub mod Layers
 pub mod Joining
 pub mod Sides
 pub mod CompactOne
+pub mod Floors
+pub mod Reading
+pub mod LinkFacts
+pub mod Missing
+pub mod LinkSays
+pub mod MissedSays
 pub mod FilterCalls
 pub mod Carrying
 pub mod Slicing

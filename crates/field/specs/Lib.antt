@@ -17,6 +17,7 @@ pub mod Open
 pub mod Links
 pub mod Compact
 pub mod Rowing
+pub mod Linked
 pub mod Carrying
 pub mod Meshes
 pub mod Working
