@@ -22,6 +22,7 @@ pub mod Judging
 pub mod Outcomes
 pub mod Standing
 pub mod AnySequence
+pub mod AtTheEdge
 pub mod Beside
 pub mod Assigning
 pub mod Sweeping
@@ -46,6 +47,7 @@ pub mod Layers
 pub mod Joining
 pub mod Sides
 pub mod CompactOne
+pub mod CompactTried
 pub mod Floors
 pub mod Reading
 pub mod LinkFacts
