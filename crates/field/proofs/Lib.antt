@@ -24,6 +24,7 @@ pub mod Outcomes
 pub mod Growing
 pub mod Standing
 pub mod AnySequence
+pub mod AtTheEdge
 pub mod Beside
 pub mod Assigning
 pub mod Sweeping
@@ -47,6 +48,13 @@ pub mod Layers
 pub mod Joining
 pub mod Sides
 pub mod CompactOne
+pub mod CompactTried
+pub mod Floors
+pub mod Reading
+pub mod LinkFacts
+pub mod Missing
+pub mod LinkSays
+pub mod MissedSays
 pub mod FilterCalls
 pub mod Carrying
 pub mod Slicing

@@ -16,6 +16,7 @@ pub mod Open
 pub mod Links
 pub mod Compact
 pub mod Rowing
+pub mod Linked
 pub mod Carrying
 pub mod Meshes
 pub mod Populate
