@@ -16,7 +16,7 @@ use Rattle.field.specs.Links.{passes, link}
 use Rattle.field.specs.Compact.{Result, Room, complete}
 use Rattle.field.specs.Linked.{Floor, CanStep, Step, linkFrom, Stored, Leads}
 use Rattle.field.proofs.Basics.{only}
-use Rattle.field.proofs.Standing.{cell-below}
+use Rattle.field.proofs.Growing.{cell-below}
 use Rattle.field.proofs.Beside.{beside-at}
 use Rattle.field.proofs.ReadingBack.{nowhere}
 use Rattle.field.proofs.Floors.{openOf, floor-open, open-floor, can-passes, passes-can, none-so-tall, step-beside, step-direction, beside-step}
