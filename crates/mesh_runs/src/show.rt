@@ -9,6 +9,14 @@ pub(crate) fn say_number(n: u64) {
     io::print_decimal(1, n);
 }
 
+fn say_word(n: u32) {
+    say_number(n as u64);
+}
+
+fn index(n: u32) -> usize {
+    n as usize
+}
+
 // Where a mesh stopped.
 fn say_place(t: u32, made: u32) {
     say(b", triangle ");
@@ -64,14 +72,14 @@ fn say_slot(floors: &[u16], ceilings: &[u16], areas: &[u8], i: usize) {
 
 // The spans of a chain, of no more slots than there are.
 fn say_chain(floors: &[u16], ceilings: &[u16], areas: &[u8], nexts: &[u32], head: u32) {
-    let mut at = head as usize;
+    let mut at = index(head);
     let mut k: usize = 0;
     while k < nexts.len() {
         if at >= nexts.len() {
             return;
         }
         say_slot(floors, ceilings, areas, at);
-        at = nexts[at] as usize;
+        at = index(nexts[at]);
         k += 1;
     }
 }
@@ -100,7 +108,7 @@ pub(crate) fn say_columns(
 ) {
     let mut i: usize = 0;
     while i < heads.len() {
-        if (heads[i] as usize) < nexts.len() {
+        if index(heads[i]) < nexts.len() {
             say_at(i, width);
             say_chain(floors, ceilings, areas, nexts, heads[i]);
             say(b"\n");
@@ -121,7 +129,7 @@ pub(crate) fn say_slots(free: u32, floors: &[u16], ceilings: &[u16], areas: &[u8
         say(b":");
         say_slot(floors, ceilings, areas, i);
         say(b" next ");
-        say_number(nexts[i] as u64);
+        say_word(nexts[i]);
         say(b"\n");
         i += 1;
     }

@@ -5,6 +5,8 @@ use grid::Corner;
 use grid::Grid;
 use rerecast::heightfield;
 use rerecast::rasterize;
+ghost use mathlib.Core.Path.{_≡_};
+ghost use lib.ListN.{length};
 
 fn plain() -> Grid {
     Grid {
@@ -24,8 +26,7 @@ fn plain() -> Grid {
 }
 
 // A triangle that leans into the last columns of the last rows.
-pub(crate) fn widest() {
-    let mut heads = [NONE; 1048576];
+fn run(heads: &mut [u32]) {
     let mut free = NONE;
     let mut floors = [0u16; 16];
     let mut ceilings = [0u16; 16];
@@ -34,7 +35,7 @@ pub(crate) fn widest() {
     let mut marks = [1u8; 16];
     heightfield::fresh(
         plain(),
-        &mut heads,
+        heads,
         &mut free,
         &mut floors,
         &mut ceilings,
@@ -43,7 +44,7 @@ pub(crate) fn widest() {
     );
     let reply = rasterize::rasterize_triangle(
         plain(),
-        &mut heads,
+        heads,
         &mut free,
         &mut floors,
         &mut ceilings,
@@ -70,5 +71,17 @@ pub(crate) fn widest() {
     );
     show::say(b"4,096 by 256 cells");
     show::say_reply(reply);
-    show::say_columns(&heads, &floors, &ceilings, &areas, &nexts, 4096);
+    show::say_columns(heads, &floors, &ceilings, &areas, &nexts, 4096);
+}
+
+// A head for each column.
+fn all_heads() -> [u32; 1048576]
+    ensures { λ r. ⌜ 1048576 ≡ length r ⌝ }
+{
+    [NONE; 1048576]
+}
+
+pub(crate) fn widest() {
+    let mut heads = all_heads();
+    run(&mut heads);
 }
