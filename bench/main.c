@@ -1,6 +1,6 @@
 // Times each stage of the libraries on each mesh, in turn, and keeps the best. Prints `mesh TAB stage TAB peer TAB
 // nanoseconds` lines, or, with the word `count`, goes through everything once so that callgrind can count instructions
-// stage by stage. Stops if the compact results are not the same.
+// stage by stage; with the word `list` it only says what the meshes are. Stops if the compact results are not the same.
 #include <malloc.h>
 #include <stdbool.h>
 #include <stdio.h>
@@ -79,8 +79,18 @@ static void print(const struct mesh *m) {
   fflush(stdout);
 }
 
+static void list(void) {
+  puts("| mesh | triangles | columns | slots lent |\n|---|---|---|---|");
+  for (int number = 0; number < MESHES; number++) {
+    struct mesh m = make_mesh(number);
+    printf("| %s | %zu | %u | %u |\n", m.name, m.triangles, m.width * m.height, m.slots);
+    drop_mesh(&m);
+  }
+}
+
 int main(int words, char **word) {
   bool counting = words > 1 && !strcmp(word[1], "count");
+  if (words > 1 && !strcmp(word[1], "list")) return list(), 0;
   // what is given back to the allocator stays mapped, so that the others pay for no new pages after the first round
   mallopt(M_MMAP_MAX, 0);
   mallopt(M_TRIM_THRESHOLD, -1);
