@@ -135,6 +135,58 @@ uint32_t lv_add_span(const float grid[8], uint32_t said[4],
                      uint32_t x, uint32_t z,
                      uint16_t floor, uint16_t ceiling, uint8_t area, uint16_t threshold);
 
+/* ---- meshes --------------------------------------------------------------------------------------- */
+
+/*
+ * A mesh is three floats x, y, z for each vertex, three vertex numbers for each triangle and an area for
+ * each triangle, so `vertices_count` is a multiple of three, `indices_count` is three times
+ * `triangle_areas_count`, and there are at most 16,777,216 triangles (else 4). Every float of `vertices`
+ * is tested, used or not (1), and every index (10), before anything is inserted.
+ *
+ * Every triangle is cut along the cells' edges, and its part in a cell is offered as a span to that column,
+ * as lv_add_span does. A mesh that is stopped by 5, 6 or 7 leaves exactly the spans inserted before the
+ * stop, and `said` names the place.
+ */
+
+/* All triangles of a mesh, in their order. Replies: 0, 1, 2, 3, 4, 14, 10, 1 (a vertex), then 5, 6 or 7. */
+uint32_t lv_rasterize_triangles(const float grid[8], uint32_t said[4],
+                                uint32_t *heads, size_t heads_count, uint32_t *free_slot,
+                                uint16_t *floors, size_t floors_count,
+                                uint16_t *ceilings, size_t ceilings_count,
+                                uint8_t *areas, size_t areas_count,
+                                uint32_t *nexts, size_t nexts_count,
+                                uint8_t *marks, size_t marks_count,
+                                const float *vertices, size_t vertices_count,
+                                const uint32_t *indices, size_t indices_count,
+                                const uint8_t *triangle_areas, size_t triangle_areas_count,
+                                uint16_t threshold);
+
+/* A mesh of one triangle, by its three corners: x, y, z of each. Replies: as above, but never 10. */
+uint32_t lv_rasterize_triangle(const float grid[8], uint32_t said[4],
+                               uint32_t *heads, size_t heads_count, uint32_t *free_slot,
+                               uint16_t *floors, size_t floors_count,
+                               uint16_t *ceilings, size_t ceilings_count,
+                               uint8_t *areas, size_t areas_count,
+                               uint32_t *nexts, size_t nexts_count,
+                               uint8_t *marks, size_t marks_count,
+                               const float corners[9], uint8_t area, uint16_t threshold);
+
+/*
+ * A mesh with `climb` as the threshold, and then the three filters below in their order. A mesh that is
+ * refused or stopped is not filtered. Replies: those of lv_rasterize_triangles.
+ */
+uint32_t lv_populate_from_trimesh(const float grid[8], uint32_t said[4],
+                                  uint32_t *heads, size_t heads_count, uint32_t *free_slot,
+                                  uint16_t *floors, size_t floors_count,
+                                  uint16_t *ceilings, size_t ceilings_count,
+                                  uint8_t *areas, size_t areas_count,
+                                  uint32_t *nexts, size_t nexts_count,
+                                  uint8_t *marks, size_t marks_count,
+                                  const float *vertices, size_t vertices_count,
+                                  const uint32_t *indices, size_t indices_count,
+                                  const uint8_t *triangle_areas, size_t triangle_areas_count,
+                                  uint16_t walkable_height, uint16_t climb);
+
 /* ---- filters -------------------------------------------------------------------------------------- */
 
 /*
@@ -155,8 +207,18 @@ uint32_t lv_filter_low_hanging_walkable_obstacles(
     uint8_t *marks, size_t marks_count,
     uint16_t climb);
 
-/* A walkable span at the rim of the grid, above a drop of more than `climb`, or on too steep a slope
-   gets area 0. */
+/*
+ * Clears ledges. Of a walkable span let F be the ceiling and C the next floor in its column, or 65,535. It
+ * gets area 0 if any of these holds:
+ *   - one of the four neighbour columns is off the grid;
+ *   - in a neighbour column, the lowest floor (65,535 if it is empty) or C, whichever is less, is at least
+ *     walkable_height above F;
+ *   - a neighbour column has a span with room to pass, whose ceiling is more than `climb` below F;
+ *   - F and the ceilings of the neighbours' spans with room to pass that are at most `climb` away from F
+ *     differ by more than `climb` from the least to the greatest.
+ * A neighbour's span with ceiling n and c the floor above it, or 65,535, has room to pass where
+ * min(C, c) - max(F, n) is at least walkable_height.
+ */
 uint32_t lv_filter_ledge_spans(
     const float grid[8], uint32_t said[4],
     const uint32_t *heads, size_t heads_count, const uint32_t *free_slot,

@@ -1,25 +1,35 @@
 /*
- * A stair between a yard and a landing, seen from above: spans go in, the filters clear what cannot be walked
- * on, and the links of the compact result show the way up.
+ * A stair from a yard up to a landing that one can also walk under. A mesh and two single spans go in, the filters
+ * clear what cannot be walked on, and the links of the compact result show the way up. Last come refusals.
  */
 #include <stdio.h>
 #include <string.h>
 
 #include "lichenvault.h"
 
-enum { WIDE = 16, DEEP = 9, COLUMNS = WIDE * DEEP, SLOTS = 400, SPACES = 400 };
-/* in units of an eighth of a metre: a step is 2 high, and the robot climbs 4 and needs 14 above it */
-enum { STONE = 1, STEP = 2, CLIMB = 4, WALKABLE_HEIGHT = 14 };
+enum { WIDE = 20, DEEP = 9, COLUMNS = WIDE * DEEP, SLOTS = 400, SPACES = 400 };
+
+/* In units of an eighth of a metre: a step is 2 high, the robot climbs 4, and needs 14 above it. */
+enum { STEPS = 8, STEP = 2, CLIMB = 4, WALKABLE_HEIGHT = 14 };
 
 /* least x, y, z, greatest x, y, z, cell size, cell height, in metres */
-static const float grid[8] = {0, 0, 0, WIDE * 0.25f, 8, DEEP * 0.25f, 0.25f, 0.125f};
+#define CELL 0.25f
+#define UNIT 0.125f
+static const float grid[8] = {0, 0, 0, WIDE * CELL, 8, DEEP * CELL, CELL, UNIT};
 static uint32_t said[4];
+
+/* the mesh: flat rectangles of two triangles each */
+enum { RECTANGLES = STEPS + 2, STONE = 1 };
+static float vertices[RECTANGLES * 12];
+static uint32_t indices[RECTANGLES * 6];
+static uint8_t triangle_areas[RECTANGLES * 2];
+#define MESH vertices, RECTANGLES * 12, indices, RECTANGLES * 6, triangle_areas, RECTANGLES * 2
 
 /* the field */
 static uint32_t heads[COLUMNS], free_slot, nexts[SLOTS];
 static uint16_t floors[SLOTS], ceilings[SLOTS];
 static uint8_t areas[SLOTS], marks[SLOTS];
-#define FIELD heads, COLUMNS, &free_slot, floors, SLOTS, ceilings, SLOTS, areas, SLOTS, nexts, SLOTS
+#define FIELD(slots) heads, COLUMNS, &free_slot, floors, slots, ceilings, slots, areas, slots, nexts, slots
 
 /* the compact result */
 static uint32_t cell_indices[COLUMNS], data[SPACES];
@@ -37,26 +47,24 @@ static void tell(const char *call, uint32_t reply) {
     printf("%s: reply %u\n", call, (unsigned)reply);
 }
 
-/* Spans over a block of columns, all of one floor and ceiling. The first reply that is not 0 ends it. */
-static uint32_t block(uint32_t x0, uint32_t x1, uint32_t z0, uint32_t z1, uint16_t floor, uint16_t ceiling,
-                      uint8_t area) {
-    for (uint32_t z = z0; z <= z1; z++)
-        for (uint32_t x = x0; x <= x1; x++) {
-            uint32_t reply =
-                lv_add_span(grid, said, FIELD, marks, SLOTS, x, z, floor, ceiling, area, 1);
-            if (reply != LV_ACCEPTED) return reply;
-        }
-    return LV_ACCEPTED;
+/* Rectangle n, at a height, over the columns from (x0, z0) up to (x1, z1). */
+static void lay(int n, int x0, int z0, int x1, int z1, int height) {
+    const int xs[4] = {x0, x0, x1, x1}, zs[4] = {z0, z1, z1, z0};
+    const uint32_t corners[6] = {0, 1, 2, 0, 2, 3};
+    for (int k = 0; k < 4; k++) {
+        float *v = vertices + (n * 4 + k) * 3;
+        v[0] = (float)xs[k] * CELL;
+        v[1] = (float)height * UNIT;
+        v[2] = (float)zs[k] * CELL;
+    }
+    for (int k = 0; k < 6; k++) indices[n * 6 + k] = (uint32_t)n * 4 + corners[k];
+    triangle_areas[n * 2] = triangle_areas[n * 2 + 1] = STONE;
 }
 
-static uint32_t build(void) {
-    uint32_t reply = block(0, WIDE - 1, 0, DEEP - 1, 0, 1, STONE); /* the yard */
-    for (uint16_t n = 1; n <= 5 && reply == LV_ACCEPTED; n++) /* five steps */
-        reply = block(4u + n, 4u + n, 2, 6, 1, (uint16_t)(1 + STEP * n), STONE);
-    if (reply == LV_ACCEPTED) reply = block(10, WIDE - 1, 2, 6, 1, 13, STONE); /* the landing */
-    if (reply == LV_ACCEPTED) reply = block(12, 12, 3, 3, 14, 15, 0); /* a box on it, low enough to climb */
-    if (reply == LV_ACCEPTED) reply = block(2, 2, 3, 5, 8, 9, 0);     /* a beam over the yard */
-    return reply;
+static void lay_all(void) {
+    lay(0, 0, 0, WIDE, DEEP, 0); /* the yard */
+    for (int n = 1; n <= STEPS; n++) lay(n, 4 + n, 2, 5 + n, 7, STEP * n);
+    lay(STEPS + 1, 5 + STEPS, 2, WIDE, 7, STEP * (STEPS + 1)); /* the landing */
 }
 
 /* What a height looks like on the map: 0 to 9, then letters. */
@@ -64,14 +72,14 @@ static char shown(unsigned y) {
     return y < 10 ? (char)('0' + y) : (char)('a' + (y - 10));
 }
 
-/* From above: the ceiling of the highest walkable span of each column, or a dot. */
-static void print_field(const char *title) {
+/* From above: the ceiling of each column's highest walkable span, or a dot. */
+static void print_field(const char *title, int wide, int deep) {
     printf("%s\n", title);
-    for (int z = 0; z < DEEP; z++) {
+    for (int z = 0; z < deep; z++) {
         printf("  ");
-        for (int x = 0; x < WIDE; x++) {
+        for (int x = 0; x < wide; x++) {
             char c = '.';
-            for (uint32_t s = heads[x + z * WIDE]; s != LV_NONE; s = nexts[s])
+            for (uint32_t s = heads[x + z * wide]; s != LV_NONE; s = nexts[s])
                 if (areas[s] != 0) c = shown(ceilings[s]);
             putchar(c);
         }
@@ -99,38 +107,76 @@ static void print_links(int z) {
     }
 }
 
-int main(void) {
-    uint32_t reply = lv_fresh(grid, said, FIELD);
+/* The map, step by step. */
+static int build(void) {
+    uint32_t reply = lv_fresh(grid, said, FIELD(SLOTS));
     tell("fresh", reply);
     if (reply != LV_ACCEPTED) return 1;
 
-    reply = build();
-    tell("spans", reply);
+    reply = lv_rasterize_triangles(grid, said, FIELD(SLOTS), marks, SLOTS, MESH, CLIMB);
+    tell("mesh", reply);
     if (reply != LV_ACCEPTED) return 1;
-    print_field("before the filters");
+    /* a box on the landing, low enough to climb, and a beam over the yard */
+    tell("box", lv_add_span(grid, said, FIELD(SLOTS), marks, SLOTS, 16, 3, 20, 21, 0, CLIMB));
+    tell("beam", lv_add_span(grid, said, FIELD(SLOTS), marks, SLOTS, 2, 4, 8, 9, 0, CLIMB));
+    print_field("before the filters", WIDE, DEEP);
 
-    reply = lv_filter_low_hanging_walkable_obstacles(grid, said, FIELD, marks, SLOTS, CLIMB);
-    tell("low obstacles", reply);
-    reply = lv_filter_ledge_spans(grid, said, FIELD, marks, SLOTS, WALKABLE_HEIGHT, CLIMB);
-    tell("ledges", reply);
-    reply = lv_filter_walkable_low_height_spans(grid, said, FIELD, marks, SLOTS, WALKABLE_HEIGHT);
-    tell("low ceilings", reply);
-    print_field("after the filters");
+    tell("low obstacles",
+         lv_filter_low_hanging_walkable_obstacles(grid, said, FIELD(SLOTS), marks, SLOTS, CLIMB));
+    tell("ledges", lv_filter_ledge_spans(grid, said, FIELD(SLOTS), marks, SLOTS, WALKABLE_HEIGHT, CLIMB));
+    tell("low ceilings",
+         lv_filter_walkable_low_height_spans(grid, said, FIELD(SLOTS), marks, SLOTS, WALKABLE_HEIGHT));
+    print_field("after the filters", WIDE, DEEP);
 
-    reply = lv_into_compact(grid, said, FIELD, marks, SLOTS, RESULT, WALKABLE_HEIGHT, CLIMB);
+    reply = lv_into_compact(grid, said, FIELD(SLOTS), marks, SLOTS, RESULT, WALKABLE_HEIGHT, CLIMB);
     tell("compact", reply);
     if (reply != LV_ACCEPTED) return 1;
     printf("the result's box ends at y = %g\n", as_float(said[0]));
     print_links(4);
+    return 0;
+}
 
-    /* What a refusal looks like: a NaN in the grid, and a direction that there is not. */
+/* The mesh and the filters in one call. */
+static void populate(void) {
+    tell("fresh", lv_fresh(grid, said, FIELD(SLOTS)));
+    tell("populate",
+         lv_populate_from_trimesh(grid, said, FIELD(SLOTS), marks, SLOTS, MESH, WALKABLE_HEIGHT, CLIMB));
+    print_field("without box and beam", WIDE, DEEP);
+}
+
+/* What refusals look like, and what they leave. */
+static void refuse(void) {
     float bad[8];
+    const uint32_t nan_bits = UINT32_C(0xffc01234);
     memcpy(bad, grid, sizeof bad);
-    uint32_t nan_bits = UINT32_C(0xffc01234);
     memcpy(&bad[4], &nan_bits, sizeof nan_bits);
-    reply = lv_fresh(bad, said, FIELD);
+    uint32_t reply = lv_fresh(bad, said, FIELD(SLOTS));
     printf("a NaN in the grid: reply %u, said %08x %08x %08x %08x\n", (unsigned)reply, (unsigned)said[0],
            (unsigned)said[1], (unsigned)said[2], (unsigned)said[3]);
+
+    tell("fresh, 203 slots", lv_fresh(grid, said, FIELD(203)));
+    reply = lv_rasterize_triangles(grid, said, FIELD(203), marks, 203, MESH, CLIMB);
+    printf("a store too small: reply %u at triangle %u, after %u of its spans\n", (unsigned)reply,
+           (unsigned)said[0], (unsigned)said[1]);
+    print_field("what stays of it", WIDE, DEEP);
+
+    /* on a small grid, a triangle that is left of column (0,0) where that column lies */
+    const float small[8] = {0, 0, 0, 4, 8, 4, 1, 1};
+    const float sliver[9] = {-2, 1, 0.5f, -0.5f, 1, 0.5f, 1.5f, 1, 4.5f};
+    tell("fresh, 4 x 4", lv_fresh(small, said, FIELD(SLOTS)));
+    tell("a triangle from the left",
+         lv_rasterize_triangle(small, said, FIELD(SLOTS), marks, SLOTS, sliver, STONE, 0));
+    print_field("what it leaves", 4, 4);
+    nexts[7] = 3; /* two slots lead to one */
+    tell("a damaged field",
+         lv_filter_low_hanging_walkable_obstacles(small, said, FIELD(SLOTS), marks, SLOTS, CLIMB));
     tell("direction 4", lv_set_con(&data[0], 4, 0));
+}
+
+int main(void) {
+    lay_all();
+    if (build() != 0) return 1;
+    populate();
+    refuse();
     return 0;
 }

@@ -5,3 +5,4 @@ pub mod heightfield;
 pub mod links;
 pub mod numbers;
 pub mod pre_filter;
+pub mod rasterize;

@@ -52,4 +52,5 @@ pub mod Slicing
 pub mod Cells
 pub mod Meshing
 pub mod Taking
+pub mod Populating
 pub mod MeshOutcomes

@@ -19,4 +19,5 @@ pub mod Compact
 pub mod Rowing
 pub mod Carrying
 pub mod Meshes
+pub mod Populate
 pub mod Working

@@ -75,20 +75,20 @@ pub record Ends (n : ℕ) (s : Store) (said : Said) (f : Field) (o : Outcome) : 
   pub beyond : drop n (o .store .heads) ≡ drop n (s .heads)
   pub marks : o .store .marks ≡ replicate (length (s .slots .nexts)) 0
 
--- the field that the store holds takes the mesh
-abbrev pub Rasterizes : ℕ → ℕ → Grid → Mesh → ℕ → Store → Outcome → Type 0
-Rasterizes w h g m threshold s o =
-    (f : Field)
-    × Holds (take (w * h) (s .heads)) (s .slots) f
-    × Ends (w * h) s (saysOf (rasterized (frameOf g w h) m threshold f)) (leaves (rasterized (frameOf g w h) m threshold f)) o
+-- the field that the store holds, and what `build` makes of it
+abbrev pub Builds : ℕ → (Field → Meshed) → Store → Outcome → Type 0
+Builds n build s o = (f : Field) × Holds (take n (s .heads)) (s .slots) f × Ends n s (saysOf (build f)) (leaves (build f)) o
 
 -- 10, then 1 over the vertex numbers, before the first cut
-abbrev pub Takes : ℕ → ℕ → Grid → Mesh → ℕ → Store → Outcome → Type 0
-Takes w h g m threshold s =
+abbrev pub Takes : ℕ → Mesh → (Field → Meshed) → Store → Outcome → Type 0
+Takes n m build s =
     Asks (Named m) (left (just 10) (cleared s))
     (Asks (verticesSay m .number ≡ 0) (left (verticesSay m) (cleared s))
-    (Rasterizes w h g m threshold s))
+    (Builds n build s))
 
 -- 1, 2, 3, 4, 14, then 10 and 1, then 0, 5, 6 or 7
+abbrev pub Given : Grid → Mesh → (Field → Meshed) → Store → Outcome → Type 0
+Given g m build s = Admits left g (Fitting (columns g) s × Shaped m) s (Takes (columns g) m build s)
+
 abbrev pub Rasterized : Grid → Mesh → ℕ → Store → Outcome → Type 0
-Rasterized g m threshold s = Admits left g (Fitting (columns g) s × Shaped m) s (Takes (width g) (height g) g m threshold s)
+Rasterized g m threshold = Given g m (rasterized (frameOf g (width g) (height g)) m threshold)

@@ -1,4 +1,4 @@
--- `rasterize::vertex_limits` meets its contract. The loop's invariant: what the numbers from i on say is what they all say.
+-- `mesh_admission::vertex_limits` meets its contract. The loop's invariant: what the numbers from i on say is what they all say.
 use borrow.Author.Needs.{needs}
 use borrow.Author.Tests.{not-true, not-false}
 use mathlib.Core.Path.{_≡_, refl, sym, _∙_}
@@ -9,8 +9,8 @@ use lib.ListN.{length, drop}
 use Rattle.replies.specs.Said.{just}
 use Rattle.grid.specs.Grid.{coordinate, firstOutside}
 use Rattle.field.proofs.Taking.{outside-next, outside-here, outside-none}
-use Rattle.rerecast.proofs.rasterize.vertex_limits.Statement.{statement}
-use Rattle.rerecast.proofs.rasterize.vertex_limits.Tie as tie
+use Rattle.rerecast.proofs.mesh_admission.vertex_limits.Statement.{statement}
+use Rattle.rerecast.proofs.mesh_admission.vertex_limits.Tie as tie
 
 abbrev Inv-loop : tie.InvT-loop
 Inv-loop vertices i₀ i = (i ≤ length vertices) × (firstOutside (map coordinate (drop i vertices)) (just 0) ≡ firstOutside (map coordinate vertices) (just 0))

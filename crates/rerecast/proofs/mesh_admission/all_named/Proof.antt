@@ -1,12 +1,12 @@
--- `rasterize::all_named` meets its contract. The loop's invariant: each index passed names a vertex.
+-- `mesh_admission::all_named` meets its contract. The loop's invariant: each index passed names a vertex.
 use borrow.Author.Needs.{needs}
 use borrow.Author.Count.{below-more}
 use mathlib.Core.Path.{_≡_}
 use Prim.Native.Nat.{ℕ, _≤_, _<_, _-_}
 use native.Mathlib.Omega.{arith}
 use lib.ListN.{length, getD}
-use Rattle.rerecast.proofs.rasterize.all_named.Statement.{statement}
-use Rattle.rerecast.proofs.rasterize.all_named.Tie as tie
+use Rattle.rerecast.proofs.mesh_admission.all_named.Statement.{statement}
+use Rattle.rerecast.proofs.mesh_admission.all_named.Tie as tie
 
 abbrev Inv-loop : tie.InvT-loop
 Inv-loop indices count i₀ i = (i ≤ length indices) × ((k : ℕ) → k < i → getD indices k 0 < count)

@@ -1,12 +1,12 @@
--- `rasterize::mesh_shaped` meets its contract.
+-- `mesh_admission::mesh_shaped` meets its contract.
 use borrow.Author.Needs.{needs}
 use borrow.Author.Tests.{eqb-true, eqb-false}
 use mathlib.Core.Path.{_≡_}
 use Prim.Native.Nat.{ℕ, _*_}
 use lib.Dec.{eqb}
 use Rattle.field.proofs.Basics.{says-if}
-use Rattle.rerecast.proofs.rasterize.mesh_shaped.Statement.{statement}
-use Rattle.rerecast.proofs.rasterize.mesh_shaped.Tie as tie
+use Rattle.rerecast.proofs.mesh_admission.mesh_shaped.Statement.{statement}
+use Rattle.rerecast.proofs.mesh_admission.mesh_shaped.Tie as tie
 
 returns : tie.Need-returns
 returns c = search needs
