@@ -102,9 +102,9 @@ enum lv_reply {
  * LV_NONE stands for no slot. A span goes from its floor to its ceiling, both from 0 to 65,535, in units of
  * the cell height above the box's least y; area 0 is not walkable.
  *
- * The field is sound when every slot is in exactly one chain, a column's or the free one, and in every
- * column floor <= ceiling < next floor from the lowest span up. Calls keep it so. A field that is not
- * sound, however it came to that, is refused with 14.
+ * The field is sound when no slot is lost or shared, each being in one column or among the free ones, and
+ * every column goes up: floor <= ceiling < next floor. Calls keep it so. A field that is not sound, however
+ * it came to that, is refused with 14.
  */
 #define LV_NONE UINT32_C(4294967295)
 

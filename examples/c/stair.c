@@ -173,10 +173,25 @@ static void refuse(void) {
     tell("direction 4", lv_set_con(&data[0], 4, 0));
 }
 
+/* A data word by hand, and floats to whole numbers. */
+static void pack(void) {
+    uint32_t word = UINT32_MAX; /* height 255, no links */
+    word = lv_set_height(word, 200);
+    tell("west to layer 3", lv_set_con(&word, 0, 3));
+    tell("east to layer 0", lv_set_con(&word, 2, 0));
+    tell("south to layer 62", lv_set_con(&word, 3, 62));
+    tell("south to layer 63", lv_set_con(&word, 3, 63));
+    tell("east emptied", lv_clear_con(&word, 2));
+    printf("the word: %08x\n", (unsigned)word);
+    printf("truncate -0.75: %d, floor -0.25: %d, ceil 0.25: %d, floor of 3e9: %d\n", (int)lv_truncate(-0.75f),
+           (int)lv_floor(-0.25f), (int)lv_ceil(0.25f), (int)lv_floor(3e9f));
+}
+
 int main(void) {
     lay_all();
     if (build() != 0) return 1;
     populate();
     refuse();
+    pack();
     return 0;
 }

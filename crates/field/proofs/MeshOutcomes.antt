@@ -1,29 +1,19 @@
 -- No second outcome for the calls that take a mesh or one triangle.
-use mathlib.Core.Path.{_≡_, sym, subst, _∙_}
+use mathlib.Core.Path.{_≡_, subst}
 use Prim.Native.Nat.{ℕ}
-use Rattle.replies.specs.Said.{Said, just}
+use Rattle.replies.specs.Said.{just}
 use Rattle.replies.proofs.Laws.{One, asks-one}
 use Rattle.grid.specs.declared.Corner.{Corner}
 use Rattle.grid.specs.declared.Grid.{Grid}
 use Rattle.grid.specs.Grid.{width, height, columns}
 use Rattle.clip.specs.Work.{frameOf}
 use Rattle.field.specs.Field.{Field}
-use Rattle.field.specs.Store.{Store, Fitting, cleared, Outcome, left}
+use Rattle.field.specs.Store.{Store, Fitting, cleared, left, Ends}
 use Rattle.field.specs.Carrying.{Meshed, saysOf, leaves}
-use Rattle.field.specs.Meshes.{Mesh, single, rasterized, Shaped, Named, verticesSay, Ends, Builds, Takes, Given, Rasterized}
+use Rattle.field.specs.Meshes.{Mesh, single, rasterized, Shaped, Named, verticesSay, Builds, Takes, Given, Rasterized}
 use Rattle.field.specs.Populate.{populated, Populated}
-use Rattle.field.proofs.Unique.{store-fixed, field-fixed}
-use Rattle.field.proofs.Outcomes.{same-heads, admits-one}
-
-pub ends-one : (n : ℕ) (s : Store) (said : Said) (f : Field) → One (Ends n s said f)
-ends-one n s said f o o′ a b =
-    let k = store-fixed (a .holds) (b .holds) in
-    let heads = same-heads n (o .store .heads) (o′ .store .heads) (k .0) (a .beyond ∙ sym (b .beyond)) in
-    λ i.
-    record {
-      said = (a .says ∙ sym (b .says)) i;
-      store = record { heads = heads i; slots = k .1 i; marks = (a .marks ∙ sym (b .marks)) i };
-    }
+use Rattle.field.proofs.Unique.{field-fixed}
+use Rattle.field.proofs.Outcomes.{ends-one, admits-one}
 
 -- whatever is made of the field that the store holds
 builds-one : (n : ℕ) (build : Field → Meshed) (s : Store) → One (Builds n build s)

@@ -2,7 +2,7 @@
 use mathlib.Core.Path.{_≡_}
 use mathlib.Core.List.{List, [], _∷_, map}
 use Prim.Native.Nat.{ℕ, _+_, _*_, _/_, _%_, _<_, _≤_}
-use lib.ListN.{length, getD, take, drop, replicate}
+use lib.ListN.{length, getD, take}
 use lib.Ieee.{Float, nan}
 use Rattle.replies.specs.Said.{Said, just, Asks}
 use Rattle.grid.specs.declared.Corner.{Corner}
@@ -11,7 +11,7 @@ use Rattle.grid.specs.Grid.{width, height, columns, coordinate, firstOutside}
 use Rattle.clip.specs.declared.frame.Frame.{Frame}
 use Rattle.clip.specs.Work.{frameOf, triangleEvents}
 use Rattle.field.specs.Field.{Field, Holds}
-use Rattle.field.specs.Store.{Store, Fitting, cleared, Outcome, left, Admits}
+use Rattle.field.specs.Store.{Store, Fitting, cleared, Outcome, left, Admits, Ends}
 use Rattle.field.specs.Carrying.{Meshed, saysOf, leaves, Work, carryMesh}
 
 -- three numbers for each vertex, three vertex numbers for each triangle, and an area for each triangle
@@ -67,13 +67,6 @@ abbrev pub verticesSay : Mesh → Said
 verticesSay m = firstOutside (map coordinate (m .vertices)) (just 0)
 
 -- ---- the call
-
--- The call says this and leaves this field. The heads past the `n` columns are as they were, and the marks are 0.
-pub record Ends (n : ℕ) (s : Store) (said : Said) (f : Field) (o : Outcome) : Type 0 where
-  pub says : o .said ≡ said
-  pub holds : Holds (take n (o .store .heads)) (o .store .slots) f
-  pub beyond : drop n (o .store .heads) ≡ drop n (s .heads)
-  pub marks : o .store .marks ≡ replicate (length (s .slots .nexts)) 0
 
 -- the field that the store holds, and what `build` makes of it
 abbrev pub Builds : ℕ → (Field → Meshed) → Store → Outcome → Type 0

@@ -29,11 +29,11 @@ use Rattle.rerecast.specs.Inner.{Lands}
 use Rattle.rerecast.specs.Rasterize.{numberOf, madeBy, leftBy, Carries, Sides, Ready}
 use Rattle.rerecast.specs.declared.insertion.Landing.{Landing}
 use Rattle.rerecast.specs.declared.insertion.Landing.the-variants.{Landed, Refused}
-use Rattle.rerecast.specs.declared.rows.Job.{Job}
-use Rattle.rerecast.specs.declared.rows.Step.{Step}
-use Rattle.rerecast.specs.declared.rows.Step.the-variants.{Went, Stopped}
-use Rattle.rerecast.specs.declared.rows.Stop.{Stop}
-use Rattle.rerecast.specs.declared.rows.Stop.the-variants.{NoSlot}
+use Rattle.rerecast.specs.declared.turns.Job.{Job}
+use Rattle.rerecast.specs.declared.turns.Step.{Step}
+use Rattle.rerecast.specs.declared.turns.Step.the-variants.{Went, Stopped}
+use Rattle.rerecast.specs.declared.turns.Stop.{Stop}
+use Rattle.rerecast.specs.declared.turns.Stop.the-variants.{NoSlot}
 
 -- ---- one insertion
 

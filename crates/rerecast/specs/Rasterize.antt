@@ -13,15 +13,15 @@ use Rattle.field.specs.Slots.{Slots}
 use Rattle.field.specs.Field.{Field, Holds}
 use Rattle.field.specs.Carrying.{Meshed, saysOf, leaves, Work, carry}
 use Rattle.field.specs.Working.{Remains, turnEvents}
-use Rattle.rerecast.specs.declared.rows.Job.{Job}
+use Rattle.rerecast.specs.declared.turns.Job.{Job}
 use Rattle.rerecast.specs.declared.rasterize.Ending.{Ending}
 use Rattle.rerecast.specs.declared.rasterize.Ending.the-variants.{Placed, Halted}
-use Rattle.rerecast.specs.declared.rows.Part.{Part}
-use Rattle.rerecast.specs.declared.rows.Part.the-variants as part
-use Rattle.rerecast.specs.declared.rows.Step.{Step}
-use Rattle.rerecast.specs.declared.rows.Step.the-variants.{Went, Stopped}
-use Rattle.rerecast.specs.declared.rows.Stop.{Stop}
-use Rattle.rerecast.specs.declared.rows.Stop.the-variants.{NoSlot, EighthVertex, TooHigh}
+use Rattle.rerecast.specs.declared.turns.Part.{Part}
+use Rattle.rerecast.specs.declared.turns.Part.the-variants as part
+use Rattle.rerecast.specs.declared.turns.Step.{Step}
+use Rattle.rerecast.specs.declared.turns.Step.the-variants.{Went, Stopped}
+use Rattle.rerecast.specs.declared.turns.Stop.{Stop}
+use Rattle.rerecast.specs.declared.turns.Stop.the-variants.{NoSlot, EighthVertex, TooHigh}
 
 abbrev pub numberOf : Stop → ℕ
 numberOf NoSlot = 5

@@ -12,6 +12,7 @@ pub mod rasterize;
 mod rows;
 mod slices;
 mod soundness;
+mod turns;
 
 ghost use mathlib.Core.Path.{_≡_};
 ghost use Rattle.rerecast.specs.Answer.{saidOf};

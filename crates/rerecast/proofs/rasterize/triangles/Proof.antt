@@ -12,8 +12,8 @@ use Rattle.field.specs.Meshes.{Mesh, mesh, workOf, rasterized}
 use Rattle.field.specs.Working.{MeshRemains}
 use Rattle.field.proofs.Meshing.{mesh-begins, mesh-on, mesh-halts-says, mesh-halts-holds, mesh-ends-says, mesh-ends-holds}
 use Rattle.rerecast.specs.Rasterize.{numberOf, Worked}
-use Rattle.rerecast.specs.declared.rows.Step.{Step}
-use Rattle.rerecast.specs.declared.rows.Step.the-variants.{Went, Stopped}
+use Rattle.rerecast.specs.declared.turns.Step.{Step}
+use Rattle.rerecast.specs.declared.turns.Step.the-variants.{Went, Stopped}
 use Rattle.rerecast.proofs.Rasterizing.{Alike, again}
 use Rattle.rerecast.proofs.rasterize.triangles.Statement.{statement}
 use Rattle.rerecast.proofs.rasterize.triangles.Tie as tie

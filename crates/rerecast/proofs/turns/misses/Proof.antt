@@ -9,8 +9,8 @@ use lib.Signed.{ltZ}
 use mir.Syntax.{w32}
 use mir.Val.{toZ, ofZ}
 use mir.ValLaws.{toZ-pos, toZ-ofZ}
-use Rattle.rerecast.proofs.rows.misses.Statement.{statement}
-use Rattle.rerecast.proofs.rows.misses.Tie as tie
+use Rattle.rerecast.proofs.turns.misses.Statement.{statement}
+use Rattle.rerecast.proofs.turns.misses.Tie as tie
 
 sign : (c : tie.Start) (b : Bool) → ltZ (toZ w32 (ofZ w32 (c .args .last))) (pos 0) ≡ b → ltZ (c .args .last) (pos 0) ≡ b
 sign c b h = ap (λ (z : ℤ). ltZ z (pos 0)) (sym (toZ-ofZ w32 (c .args .last) (c .fits .last))) ∙ h

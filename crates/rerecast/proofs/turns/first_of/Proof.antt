@@ -12,8 +12,8 @@ use mir.Val.{toZ, ofZ}
 use mir.ValLaws.{toZ-ofZ}
 use Rattle.clip.specs.Slices.{heldTo}
 use Rattle.clip.proofs.Holds.{first-below, first-inside, held-le}
-use Rattle.rerecast.proofs.rows.first_of.Statement.{statement}
-use Rattle.rerecast.proofs.rows.first_of.Tie as tie
+use Rattle.rerecast.proofs.turns.first_of.Statement.{statement}
+use Rattle.rerecast.proofs.turns.first_of.Tie as tie
 
 -- the integer that is tested and passed on is v
 read : (c : tie.Start) → toZ w32 (ofZ w32 (c .args .v)) ≡ c .args .v

@@ -7,8 +7,8 @@ use lib.IntN.{ℤ, pos, predℤ, _-ℤ_, -ℤ-one}
 use mir.Syntax.{w16}
 use mir.Val.{SFits, toZ, ofZ}
 use mir.ValLaws.{toZ-pos, toZ-ofZ}
-use Rattle.rerecast.proofs.rows.number.Statement.{statement}
-use Rattle.rerecast.proofs.rows.number.Tie as tie
+use Rattle.rerecast.proofs.turns.number.Statement.{statement}
+use Rattle.rerecast.proofs.turns.number.Tie as tie
 
 before : (c : tie.Start) → toZ w16 (c .args .k) -ℤ pos 1 ≡ predℤ (pos (c .args .k))
 before c = ap (λ (z : ℤ). z -ℤ pos 1) (toZ-pos w16 (c .args .k) (omega (arith, c .pre))) ∙ -ℤ-one (pos (c .args .k))

@@ -2,8 +2,8 @@
 use Prim.Native.Nat.{ℕ, _<_}
 use native.Mathlib.Omega.{arith}
 use Rattle.field.proofs.Slicing.{turn-first, turn-second, turn-before, turn-few, turn-part}
-use Rattle.rerecast.proofs.rows.part_of.Statement.{statement}
-use Rattle.rerecast.proofs.rows.part_of.Tie as tie
+use Rattle.rerecast.proofs.turns.part_of.Statement.{statement}
+use Rattle.rerecast.proofs.turns.part_of.Tie as tie
 
 returns : tie.Need-returns
 returns c gives vs = let a = c .before .before .args in turn-first (a .d) gives (a .k) vs (c .if1 .taken)
