@@ -1,98 +1,23 @@
 // Runs of compacting at its limits: a column of 255 floors and one of 256, links to the highest layers, slices that are just long enough, and an agent
 // that is too tall for any link. Two columns lie side by side, and the field is made by the library's own calls.
-use compact_span::Con;
 use compact_span::CompactSpan;
-use compact_span::Link;
 use field::Span;
 use grid::Corner;
 use grid::Grid;
-use rerecast::Reply;
 use rerecast::compact_heightfield;
 use rerecast::heightfield;
 
-// ---- printing
+mod show;
 
-fn say(s: &[u8]) {
-    io::write_all(1, s);
-}
-
-fn say_number(n: u64) {
-    io::print_decimal(1, n);
-}
-
-// A number in a field of six.
-fn say_six(n: u64) {
-    if n < 10 {
-        say(b"     ");
-    } else if n < 100 {
-        say(b"    ");
-    } else if n < 1000 {
-        say(b"   ");
-    } else if n < 10000 {
-        say(b"  ");
-    } else {
-        say(b" ");
-    }
-    say_number(n);
-}
-
-fn say_height(y: u16) {
-    say_six(y as u64);
-}
-
-fn say_byte(b: u8) {
-    say_six(b as u64);
-}
-
-// The link of a word in a direction, in a field of six.
-fn say_link(data: u32, dir: u8) {
-    let span = CompactSpan { y: 0, data };
-    let con = span.con(dir);
-    match con {
-        Con::Refused => say(b"     ?"),
-        Con::Link(link) => match link {
-            Link::Empty => say(b"     -"),
-            Link::To(layer) => say_byte(layer),
-        },
-    }
-}
-
-// The layer that reply 12 carries, in a field of six.
-fn say_layer(r: Reply) {
-    if let Reply::Layers(layer, _) = r {
-        say_byte(layer);
-    } else {
-        say(b"     -");
-    }
-}
-
-// A raised greatest y: 64 and the walkable height times 0.5, for each walkable height that is tried.
-fn say_raised(top: f32) {
-    if top == 66.5 {
-        say(b"66.5");
-    } else if top == 191.5 {
-        say(b"191.5");
-    } else if top == 192.0 {
-        say(b"192");
-    } else {
-        say(b"another");
-    }
-}
-
-// The raised greatest y that a complete result's reply carries.
-fn say_top(r: Reply) {
-    if let Reply::Compacted(top) = r {
-        say_raised(top);
-    } else if let Reply::Layers(_, top) = r {
-        say_raised(top);
-    } else {
-        say(b"none");
-    }
-}
-
-fn number(r: Reply) -> u64 {
-    r.number() as u64
-}
+use show::number;
+use show::say;
+use show::say_byte;
+use show::say_height;
+use show::say_layer;
+use show::say_link;
+use show::say_number;
+use show::say_six;
+use show::say_top;
 
 // ---- the field
 
@@ -169,9 +94,7 @@ fn stack(
 ) {
     heightfield::fresh(two_columns(), heads, free, floors, ceilings, areas, nexts);
     for layer in 0..layers {
-        add_floor(
-            heads, free, floors, ceilings, areas, nexts, marks, 1, layer,
-        );
+        add_floor(heads, free, floors, ceilings, areas, nexts, marks, 1, layer);
     }
 }
 
@@ -319,7 +242,9 @@ fn try_level(layers: u8, level: u8, tall: u16) {
 }
 
 fn links() {
-    say(b"a floor level with a layer of the stack beside it (direction 2), climb 0, box up to 64, cells 0.5 high\n");
+    say(
+        b"a floor level with a layer of the stack beside it (direction 2), climb 0, box up to 64, cells 0.5 high\n",
+    );
     say(b" stack level  tall reply layer  link  back   raised y\n");
     try_level(62, 61, 5);
     try_level(63, 62, 5);
