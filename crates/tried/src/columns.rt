@@ -96,8 +96,9 @@ fn add(c: Column, new: Span, threshold: u16) -> Column {
 
 // A line of the table: the last reply, and the column.
 fn row(name: &[u8], c: Column) {
+    let reply = c.reply;
     say(name);
-    say_reply(c.reply);
+    say_reply(reply);
     say(b":");
     let floors = c.floors;
     let ceilings = c.ceilings;

@@ -1,7 +1,9 @@
 // Examples over several columns: ledges, a sliver left of the grid, and an agent that is too tall for any link.
 use crate::show::say;
+use crate::show::say_area;
 use crate::show::say_number;
 use crate::show::say_reply;
+use crate::show::say_word;
 use field::NONE;
 use grid::Corner;
 use grid::Grid;
@@ -46,9 +48,9 @@ fn try_ledge(name: &[u8], west: u16, east: u16, climb: u16) {
     say(name);
     say_reply(reply);
     say(b": centre ");
-    say_number(areas[4] as u64);
+    say_area(areas[4]);
     say(b", corner ");
-    say_number(areas[0] as u64);
+    say_area(areas[0]);
     say(b"\n");
 }
 
@@ -148,7 +150,7 @@ fn try_tall(name: &[u8], walkable_height: u16) {
     say(name);
     say_reply(reply);
     say(b": ");
-    say_number(data[0] as u64);
+    say_word(data[0]);
     say(b"\n");
 }
 

@@ -1,21 +1,23 @@
 // Examples of words and numbers.
 use crate::show::say;
-use crate::show::say_number;
+use crate::show::say_word;
 use compact_span::CompactSpan;
 
 fn word(name: &[u8], data: u32) {
     say(name);
-    say_number(data as u64);
+    say_word(data);
     say(b"\n");
 }
 
+// The numbers here are 0 and -1; any other is shown as not being either.
 fn whole(name: &[u8], n: i32) {
     say(name);
-    if n < 0 {
-        say(b"below 0: ");
-        say_number(n.wrapping_neg() as u32 as u64);
+    if n == -1 {
+        say(b"-1");
+    } else if n == 0 {
+        say(b"0");
     } else {
-        say_number(n as u32 as u64);
+        say(b"neither 0 nor -1");
     }
     say(b"\n");
 }
@@ -34,11 +36,11 @@ pub(crate) fn words() {
         ops::truncate(-0.75),
     );
     whole(
-        b"P9, truncation of -1         below 0: 1                      ",
+        b"P9, truncation of -1         -1                              ",
         ops::truncate(-1.0),
     );
     whole(
-        b"P9, floor of -0.25           below 0: 1                      ",
+        b"P9, floor of -0.25           -1                              ",
         ops::floor(-0.25),
     );
 }

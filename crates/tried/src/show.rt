@@ -9,6 +9,14 @@ pub(crate) fn say_number(n: u64) {
     io::print_decimal(1, n);
 }
 
+pub(crate) fn say_word(n: u32) {
+    say_number(n as u64);
+}
+
+pub(crate) fn say_area(area: u8) {
+    say_number(area as u64);
+}
+
 pub(crate) fn say_reply(r: Reply) {
     say_number(r.number() as u64);
 }
