@@ -23,6 +23,8 @@ pub mod Judging
 pub mod Outcomes
 pub mod Growing
 pub mod Standing
+pub mod Stopping
+pub mod MeshStops
 pub mod AnySequence
 pub mod AtTheEdge
 pub mod Beside

@@ -229,7 +229,7 @@ module _ {g : Grid} {A : ℕ → List Span} {s : Store} (S : Standing g A s) (m 
   frame = frameOf g (width g) (height g)
 
   -- the mesh alone
-  rasterized-grows : let r = rasterized frame m th (S .field) in Grown (columns g) (length (s .slots .nexts)) (λ i. inColumn i (putByMesh g m (saysOf r)) ++ A i) (leaves r)
+  pub rasterized-grows : let r = rasterized frame m th (S .field) in Grown (columns g) (length (s .slots .nexts)) (λ i. inColumn i (putByMesh g m (saysOf r)) ++ A i) (leaves r)
   unfolding frameOf
   rasterized-grows =
       let a = accepted g (S .grid) in
