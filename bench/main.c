@@ -18,19 +18,23 @@ static const enum stage AT_ONCE[] = {FRESH, POPULATE, COMPACT};
 static const struct peer *const PEERS[] = {&ours, &rust, &recast};
 enum { ALL = 3, ROUNDS = 5, ENOUGH = 2000000000 };
 
-static uint64_t now(void) {
+static uint64_t now(clockid_t clock) {
   struct timespec t;
-  clock_gettime(CLOCK_MONOTONIC, &t);
+  clock_gettime(clock, &t);
   return (uint64_t)t.tv_sec * 1000000000u + (uint64_t)t.tv_nsec;
 }
 
 static uint64_t best[ALL][STAGES];
 
+// By the clock on the wall and by the thread's own: the first is quicker to read, the second stands still while others
+// have the processor. The lesser counts.
 static void timed(int who, enum stage stage) {
   PEERS[who]->ready(stage);
-  uint64_t start = now();
+  uint64_t own = now(CLOCK_THREAD_CPUTIME_ID), wall = now(CLOCK_MONOTONIC);
   PEERS[who]->stage(stage);
-  uint64_t took = now() - start;
+  wall = now(CLOCK_MONOTONIC) - wall;
+  own = now(CLOCK_THREAD_CPUTIME_ID) - own;
+  uint64_t took = own < wall ? own : wall;
   if (took < best[who][stage]) best[who][stage] = took;
 }
 
@@ -98,8 +102,8 @@ int main(int words, char **word) {
     struct mesh m = make_mesh(number);
     for (int who = 0; who < ALL; who++) PEERS[who]->prepare(&m);
     memset(best, 255, sizeof best);
-    uint64_t start = now();
-    for (int i = 0; counting ? i < 1 : i < ROUNDS || now() - start < ENOUGH; i++) both_ways(&m, counting);
+    uint64_t start = now(CLOCK_MONOTONIC);
+    for (int i = 0; counting ? i < 1 : i < ROUNDS || now(CLOCK_MONOTONIC) - start < ENOUGH; i++) both_ways(&m, counting);
     if (!counting) print(&m);
     drop_mesh(&m);
   }
