@@ -222,8 +222,8 @@ fn hollow_of(floors: &[u16], sides: Sides) -> u16
     greater(greater(a, b), greater(c, d))
 }
 
-// The filter on a column that is not at the rim.
-fn clear_inner(
+// The filter on the spans of a column that is not at the rim.
+fn clear_spans(
     heads: &[u32],
     floors: &[u16],
     ceilings: &[u16],
@@ -257,6 +257,39 @@ fn clear_inner(
         sides = judged.sides;
         at = next;
     }
+}
+
+// The filter on a column that is not at the rim. In an empty one there is nothing to look for, and many columns are empty.
+fn clear_inner(
+    heads: &[u32],
+    floors: &[u16],
+    ceilings: &[u16],
+    areas: &mut [u8],
+    nexts: &[u32],
+    width: usize,
+    column: usize,
+    height: u16,
+    climb: u16,
+)
+    requires { ⌜ (0 < column) × (width ≤ column) × (column + width < length (now heads)) × (column + 1 < length (now heads)) × (length (now heads) ≤ 1048576) ⌝ }
+    requires { ⌜ length (now areas) ≡ length (now nexts) ⌝ }
+    requires { ⌜ ((free : ℕ) × (areas₀ : List ℕ) × Held (now heads) (slots free (now floors) (now ceilings) areas₀ (now nexts))) ⌝ }
+    ensures { λ _. ⌜ ((free : ℕ) (areas₀ : List ℕ) (f : Field) → Holds (now (heads .entry)) (slots free (now (floors .entry)) (now (ceilings .entry)) areas₀ (now (nexts .entry))) f → (ss : List ℕ) → Chain (now (nexts .entry)) (getD (now (heads .entry)) column 0) ss → now (areas .exit) ≡ assign (now (areas .entry)) ss (ruled (λ below s above. firm height climb (spans f) (around width column) s above) [] (map (spanAt (contents (now (floors .entry)) (now (ceilings .entry)) (now (areas .entry)))) ss))) ⌝ }
+{
+    if heads[column] == NONE {
+        return;
+    }
+    clear_spans(
+        heads,
+        floors,
+        ceilings,
+        areas,
+        nexts,
+        width,
+        column,
+        height,
+        climb,
+    );
 }
 
 // The filter on a column at the rim, where every span is at a ledge.
