@@ -245,8 +245,8 @@ fn around_column(
     }
 }
 
-// Links the open spaces of a column. Answers the largest layer missed so far.
-fn link_column(
+// Links the open spaces of a column to the cells beside it. Answers the largest layer missed so far.
+fn link_spans(
     cell_indices: &[u32],
     cell_counts: &[u8],
     ys: &[u16],
@@ -281,6 +281,40 @@ fn link_column(
         l += 1;
     }
     most
+}
+
+// The same, but for an empty column the cells beside it are not looked at: many columns are empty.
+fn link_column(
+    cell_indices: &[u32],
+    cell_counts: &[u8],
+    ys: &[u16],
+    data: &mut [u32],
+    width: usize,
+    depth: usize,
+    column: usize,
+    tall: u16,
+    climb: u16,
+    missed: u8,
+) -> u8
+    requires { ⌜ (column < width * depth) × (width * depth ≤ 1048576) ⌝ }
+    requires { ⌜ ((cs : List (List Open)) × (length cs ≡ width * depth) × Shown cs (now «cell_indices») (now «cell_counts») (now ys) (now «data»)) ⌝ }
+    ensures { λ r. ⌜ ((cs : List (List Open)) → length cs ≡ width * depth → Shown cs (now («cell_indices» .entry)) (now («cell_counts» .entry)) (now (ys .entry)) (now («data» .entry)) → (now («data» .exit) ≡ sets (now («data» .entry)) (getD (now («cell_indices» .entry)) column 0) (map (wordOf (passes tall climb) (around width depth cs column)) (getD cs column []))) × (r ≡ foldl max missed (map (missedOf (passes tall climb) (around width depth cs column)) (getD cs column []))) × Shown cs (now («cell_indices» .entry)) (now («cell_counts» .entry)) (now (ys .entry)) (now («data» .exit))) ⌝ }
+{
+    if cell_counts[column] == 0 {
+        return missed;
+    }
+    link_spans(
+        cell_indices,
+        cell_counts,
+        ys,
+        data,
+        width,
+        depth,
+        column,
+        tall,
+        climb,
+        missed,
+    )
 }
 
 // Links the open spaces of all columns. Answers the largest layer missed, or 0.
