@@ -1,98 +1,22 @@
 // Runs of compacting at its limits: a column of 255 floors and one of 256, links to the highest layers, slices that are just long enough, and an agent
 // that is too tall for any link. Two columns lie side by side, and the field is made by the library's own calls.
-use compact_span::Con;
-use compact_span::CompactSpan;
-use compact_span::Link;
+mod print;
+
+use crate::print::number;
+use crate::print::say;
+use crate::print::say_byte;
+use crate::print::say_height;
+use crate::print::say_layer;
+use crate::print::say_link;
+use crate::print::say_rows;
+use crate::print::say_six;
+use crate::print::say_top;
 use field::Span;
 use grid::Corner;
 use grid::Grid;
 use rerecast::Reply;
 use rerecast::compact_heightfield;
 use rerecast::heightfield;
-
-// ---- printing
-
-fn say(s: &[u8]) {
-    io::write_all(1, s);
-}
-
-fn say_number(n: u64) {
-    io::print_decimal(1, n);
-}
-
-// A number in a field of six.
-fn say_six(n: u64) {
-    if n < 10 {
-        say(b"     ");
-    } else if n < 100 {
-        say(b"    ");
-    } else if n < 1000 {
-        say(b"   ");
-    } else if n < 10000 {
-        say(b"  ");
-    } else {
-        say(b" ");
-    }
-    say_number(n);
-}
-
-fn say_height(y: u16) {
-    say_six(y as u64);
-}
-
-fn say_byte(b: u8) {
-    say_six(b as u64);
-}
-
-// The link of a word in a direction, in a field of six.
-fn say_link(data: u32, dir: u8) {
-    let span = CompactSpan { y: 0, data };
-    let con = span.con(dir);
-    match con {
-        Con::Refused => say(b"     ?"),
-        Con::Link(link) => match link {
-            Link::Empty => say(b"     -"),
-            Link::To(layer) => say_byte(layer),
-        },
-    }
-}
-
-// The layer that reply 12 carries, in a field of six.
-fn say_layer(r: Reply) {
-    if let Reply::Layers(layer, _) = r {
-        say_byte(layer);
-    } else {
-        say(b"     -");
-    }
-}
-
-// A raised greatest y: 64 and the walkable height times 0.5, for each walkable height that is tried.
-fn say_raised(top: f32) {
-    if top == 66.5 {
-        say(b"66.5");
-    } else if top == 191.5 {
-        say(b"191.5");
-    } else if top == 192.0 {
-        say(b"192");
-    } else {
-        say(b"another");
-    }
-}
-
-// The raised greatest y that a complete result's reply carries.
-fn say_top(r: Reply) {
-    if let Reply::Compacted(top) = r {
-        say_raised(top);
-    } else if let Reply::Layers(_, top) = r {
-        say_raised(top);
-    } else {
-        say(b"none");
-    }
-}
-
-fn number(r: Reply) -> u64 {
-    r.number() as u64
-}
 
 // ---- the field
 
@@ -169,10 +93,43 @@ fn stack(
 ) {
     heightfield::fresh(two_columns(), heads, free, floors, ceilings, areas, nexts);
     for layer in 0..layers {
-        add_floor(
-            heads, free, floors, ceilings, areas, nexts, marks, 1, layer,
-        );
+        add_floor(heads, free, floors, ceilings, areas, nexts, marks, 1, layer);
     }
+}
+
+// The compact result of the field, for an agent that climbs nothing.
+fn compact(
+    heads: &[u32; 2],
+    free: &u32,
+    floors: &[u16; 256],
+    ceilings: &[u16; 256],
+    areas: &[u8; 256],
+    nexts: &[u32; 256],
+    marks: &mut [u8; 256],
+    cell_indices: &mut [u32; 3],
+    cell_counts: &mut [u8; 3],
+    ys: &mut [u16],
+    data: &mut [u32],
+    span_areas: &mut [u8],
+    tall: u16,
+) -> Reply {
+    compact_heightfield::into_compact(
+        two_columns(),
+        heads,
+        free,
+        floors,
+        ceilings,
+        areas,
+        nexts,
+        marks,
+        cell_indices,
+        cell_counts,
+        ys,
+        data,
+        span_areas,
+        tall,
+        0,
+    )
 }
 
 // ---- crowded columns
@@ -214,8 +171,7 @@ fn try_crowd(name: &[u8], one_more: bool) {
     let mut ys = [7u16; 256];
     let mut data = [7u32; 256];
     let mut span_areas = [7u8; 256];
-    let reply = compact_heightfield::into_compact(
-        two_columns(),
+    let reply = compact(
         &heads,
         &free,
         &floors,
@@ -229,7 +185,6 @@ fn try_crowd(name: &[u8], one_more: bool) {
         &mut data,
         &mut span_areas,
         5,
-        0,
     );
     say(name);
     say_six(number(reply));
@@ -250,6 +205,11 @@ fn crowded_columns() {
 }
 
 // ---- links
+
+// The place of a layer of the second column, where the first has one floor.
+fn behind(layer: u8) -> usize {
+    layer as usize + 1
+}
 
 // A floor beside a stack, level with one of its layers: the reply, the floor's link in direction 2, and the link back from that layer.
 fn try_level(layers: u8, level: u8, tall: u16) {
@@ -281,13 +241,12 @@ fn try_level(layers: u8, level: u8, tall: u16) {
         0,
         level,
     );
-    let mut cell_indices = [7u32; 2];
-    let mut cell_counts = [7u8; 2];
+    let mut cell_indices = [7u32; 3];
+    let mut cell_counts = [7u8; 3];
     let mut ys = [7u16; 256];
     let mut data = [7u32; 256];
     let mut span_areas = [7u8; 256];
-    let reply = compact_heightfield::into_compact(
-        two_columns(),
+    let reply = compact(
         &heads,
         &free,
         &floors,
@@ -301,7 +260,6 @@ fn try_level(layers: u8, level: u8, tall: u16) {
         &mut data,
         &mut span_areas,
         tall,
-        0,
     );
     say_byte(layers);
     say_byte(level);
@@ -309,7 +267,7 @@ fn try_level(layers: u8, level: u8, tall: u16) {
     say_six(number(reply));
     say_layer(reply);
     say_link(data[0], 2);
-    let back = level as usize + 1;
+    let back = behind(level);
     if back < 256 {
         say_link(data[back], 0);
     }
@@ -319,7 +277,9 @@ fn try_level(layers: u8, level: u8, tall: u16) {
 }
 
 fn links() {
-    say(b"a floor level with a layer of the stack beside it (direction 2), climb 0, box up to 64, cells 0.5 high\n");
+    say(
+        b"a floor level with a layer of the stack beside it (direction 2), climb 0, box up to 64, cells 0.5 high\n",
+    );
     say(b" stack level  tall reply layer  link  back   raised y\n");
     try_level(62, 61, 5);
     try_level(63, 62, 5);
@@ -331,24 +291,8 @@ fn links() {
 
 // ---- slices
 
-// An entry of the rows, where there is one: y, height, the four links and the area.
-fn say_row(ys: &[u16], data: &[u32], areas: &[u8], k: usize) {
-    if k < ys.len() && k < data.len() && k < areas.len() {
-        let word = data[k];
-        say(b"    ");
-        say_height(ys[k]);
-        say_byte(CompactSpan::height_in(word));
-        say_link(word, 0);
-        say_link(word, 1);
-        say_link(word, 2);
-        say_link(word, 3);
-        say_byte(areas[k]);
-        say(b"\n");
-    }
-}
-
 // One floor, and a stack of three beside it: four open spaces.
-fn try_rows(name: &[u8], ys: &mut [u16], data: &mut [u32], span_areas: &mut [u8]) {
+fn compact_four(ys: &mut [u16], data: &mut [u32], span_areas: &mut [u8]) -> Reply {
     let mut heads = [0u32; 2];
     let mut free = 0u32;
     let mut floors = [0u16; 256];
@@ -356,6 +300,8 @@ fn try_rows(name: &[u8], ys: &mut [u16], data: &mut [u32], span_areas: &mut [u8]
     let mut areas = [0u8; 256];
     let mut nexts = [0u32; 256];
     let mut marks = [0u8; 256];
+    let mut cell_indices = [7u32; 3];
+    let mut cell_counts = [7u8; 3];
     stack(
         &mut heads,
         &mut free,
@@ -377,10 +323,7 @@ fn try_rows(name: &[u8], ys: &mut [u16], data: &mut [u32], span_areas: &mut [u8]
         0,
         1,
     );
-    let mut cell_indices = [7u32; 2];
-    let mut cell_counts = [7u8; 2];
-    let reply = compact_heightfield::into_compact(
-        two_columns(),
+    compact(
         &heads,
         &free,
         &floors,
@@ -394,56 +337,57 @@ fn try_rows(name: &[u8], ys: &mut [u16], data: &mut [u32], span_areas: &mut [u8]
         data,
         span_areas,
         5,
-        0,
-    );
-    say(name);
-    say_number(number(reply));
-    say(b"\n");
-    say_row(ys, data, span_areas, 0);
-    say_row(ys, data, span_areas, 1);
-    say_row(ys, data, span_areas, 2);
-    say_row(ys, data, span_areas, 3);
-    say_row(ys, data, span_areas, 4);
-    say_row(ys, data, span_areas, 5);
+    )
+}
+
+fn short_ys() {
+    let mut ys = [7u16; 3];
+    let mut data = [7u32; 4];
+    let mut areas = [7u8; 4];
+    let reply = compact_four(&mut ys, &mut data, &mut areas);
+    say_rows(b"  a y too few", reply, &ys, &data, &areas);
+}
+
+fn short_data() {
+    let mut ys = [7u16; 4];
+    let mut data = [7u32; 3];
+    let mut areas = [7u8; 4];
+    let reply = compact_four(&mut ys, &mut data, &mut areas);
+    say_rows(b"  a word too few", reply, &ys, &data, &areas);
+}
+
+fn short_areas() {
+    let mut ys = [7u16; 4];
+    let mut data = [7u32; 4];
+    let mut areas = [7u8; 3];
+    let reply = compact_four(&mut ys, &mut data, &mut areas);
+    say_rows(b"  an area too few", reply, &ys, &data, &areas);
+}
+
+fn just_enough() {
+    let mut ys = [7u16; 4];
+    let mut data = [7u32; 4];
+    let mut areas = [7u8; 4];
+    let reply = compact_four(&mut ys, &mut data, &mut areas);
+    say_rows(b"  just enough", reply, &ys, &data, &areas);
+}
+
+fn two_more() {
+    let mut ys = [7u16; 6];
+    let mut data = [7u32; 6];
+    let mut areas = [7u8; 6];
+    let reply = compact_four(&mut ys, &mut data, &mut areas);
+    say_rows(b"  two more", reply, &ys, &data, &areas);
 }
 
 fn slices() {
     say(b"four open spaces in slices of different lengths; 7 stood in every entry\n");
     say(b"         y height link0 link1 link2 link3  area\n");
-    let mut ys = [7u16; 4];
-    let mut data = [7u32; 4];
-    let mut areas = [7u8; 4];
-    let mut short_ys = [7u16; 3];
-    let mut short_data = [7u32; 3];
-    let mut short_areas = [7u8; 3];
-    let mut long_ys = [7u16; 6];
-    let mut long_data = [7u32; 6];
-    let mut long_areas = [7u8; 6];
-    try_rows(
-        b"  a y too few: reply ",
-        &mut short_ys,
-        &mut data,
-        &mut areas,
-    );
-    try_rows(
-        b"  a word too few: reply ",
-        &mut ys,
-        &mut short_data,
-        &mut areas,
-    );
-    try_rows(
-        b"  an area too few: reply ",
-        &mut ys,
-        &mut data,
-        &mut short_areas,
-    );
-    try_rows(b"  just enough: reply ", &mut ys, &mut data, &mut areas);
-    try_rows(
-        b"  two more: reply ",
-        &mut long_ys,
-        &mut long_data,
-        &mut long_areas,
-    );
+    short_ys();
+    short_data();
+    short_areas();
+    just_enough();
+    two_more();
 }
 
 fn main() {
