@@ -21,7 +21,8 @@ use Rattle.field.proofs.Basics.{true-false, not-true-false}
 use Rattle.field.proofs.Unique.{field-fixed}
 use Rattle.field.proofs.Refusal.{refused-exactly}
 use Rattle.field.proofs.Order.{covers-lists, lists-fixed}
-use Rattle.field.proofs.Standing.{Standing, cell-below, first-long, admitted, history-stands}
+use Rattle.field.proofs.Growing.{cell-below}
+use Rattle.field.proofs.Standing.{Standing, first-long, admitted, history-stands}
 
 -- The store holds a sound field. A column of it lists from the lowest up, and without repeats, the stretches of the spans that it accepted, and nothing else.
 pub columns-list-stretches : (g : Grid) (s : Store) → Begins g s → {steps : List Step} {t : Store} → History g s steps t

@@ -17,7 +17,7 @@ use Rattle.field.specs.Inner.{Says}
 use Rattle.field.specs.Beside.{besideAt, beside}
 use Rattle.field.specs.FilterCode.{Rim, around}
 use Rattle.field.proofs.Basics.{by-dec, by-test, says-if}
-use Rattle.field.proofs.Standing.{cell-below}
+use Rattle.field.proofs.Growing.{cell-below}
 
 -- ---- a column's number and its place
 

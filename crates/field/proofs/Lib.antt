@@ -1,4 +1,5 @@
 pub mod Basics
+pub mod Agreeing
 pub mod Counting
 pub mod Chains
 pub mod Contents
@@ -20,8 +21,10 @@ pub mod Marking
 pub mod Surveying
 pub mod Judging
 pub mod Outcomes
+pub mod Growing
 pub mod Standing
 pub mod AnySequence
+pub mod AtTheEdge
 pub mod Beside
 pub mod Assigning
 pub mod Sweeping
@@ -35,7 +38,6 @@ pub mod Cursors
 pub mod Ledging
 pub mod Admitting
 pub mod Offering
-pub mod Tried
 pub mod Lists
 pub mod Opening
 pub mod Tallying
@@ -46,10 +48,18 @@ pub mod Layers
 pub mod Joining
 pub mod Sides
 pub mod CompactOne
+pub mod CompactTried
+pub mod Floors
+pub mod Reading
+pub mod LinkFacts
+pub mod Missing
+pub mod LinkSays
+pub mod MissedSays
 pub mod FilterCalls
 pub mod Carrying
 pub mod Slicing
 pub mod Cells
 pub mod Meshing
 pub mod Taking
+pub mod Populating
 pub mod MeshOutcomes

@@ -15,7 +15,7 @@ use Rattle.field.specs.Store.{store, left}
 use Rattle.field.specs.Calls.{Offers}
 use Rattle.field.proofs.Basics.{true-false}
 use Rattle.field.proofs.Refusal.{refused-field}
-use Rattle.field.proofs.Standing.{cell-below}
+use Rattle.field.proofs.Growing.{cell-below}
 use Rattle.field.proofs.Unique.{store-fixed}
 
 module _ (w h x z : ℕ) (new : Span) (th : ℕ) (heads : List ℕ) (t : Slots) (marks : List ℕ) (enough : w * h ≤ length heads) (xw : x < w) (zh : z < h) {n : ℕ} (en : n ≡ w * h) {col : ℕ} (ec : col ≡ x + z * w) where

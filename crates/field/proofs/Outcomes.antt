@@ -11,7 +11,7 @@ use Rattle.grid.specs.Grid.{width, height, columns, gridSays}
 use Rattle.field.specs.declared.Span.{Span}
 use Rattle.field.specs.Slots.{Slots}
 use Rattle.field.specs.Field.{Field, insert}
-use Rattle.field.specs.Store.{Store, Fits, Fitting, Sound, cleared, left, Admits, Becomes}
+use Rattle.field.specs.Store.{Store, Fits, Fitting, Sound, cleared, left, Admits, Ends, Becomes}
 use Rattle.field.specs.Calls.{made, IsFresh, Freshened, Inserts, Offers, Added}
 use Rattle.field.proofs.Unique.{store-fixed, field-fixed}
 
@@ -26,8 +26,8 @@ admits-one ends g Fitted s next one =
     (asks-one Fitted (ends (just 4) s) _
     (asks-one (Sound (columns g) s) (ends (just 14) (cleared s)) next one))
 
-pub becomes-one : (n : ℕ) (s : Store) (f : Field) → One (Becomes n s f)
-becomes-one n s f o o′ a b =
+pub ends-one : (n : ℕ) (s : Store) (said : Said) (f : Field) → One (Ends n s said f)
+ends-one n s said f o o′ a b =
     let k = store-fixed (a .holds) (b .holds) in
     let heads = same-heads n (o .store .heads) (o′ .store .heads) (k .0) (a .beyond ∙ sym (b .beyond)) in
     λ i.
@@ -35,6 +35,9 @@ becomes-one n s f o o′ a b =
       said = (a .says ∙ sym (b .says)) i;
       store = record { heads = heads i; slots = k .1 i; marks = (a .marks ∙ sym (b .marks)) i };
     }
+
+pub becomes-one : (n : ℕ) (s : Store) (f : Field) → One (Becomes n s f)
+becomes-one n s f = ends-one n s (just 0) f
 
 pub inserts-one : (n i : ℕ) (new : Span) (th : ℕ) (s : Store) → One (Inserts n i new th s)
 inserts-one n i new th s o o′ a b =

@@ -58,7 +58,7 @@ row-at g l cs h i j p m =
     ∙ ap g (flatten-at nowhere cs i j p m)
 
 -- an entry of a list that starts with `vs`
-start-at : (l vs : List ℕ) (i : ℕ) → i < length vs → length vs ≤ length l → getD (sets l 0 vs) i 0 ≡ getD vs i 0
+pub start-at : (l vs : List ℕ) (i : ℕ) → i < length vs → length vs ≤ length l → getD (sets l 0 vs) i 0 ≡ getD vs i 0
 start-at l vs i h r =
     let n : 0 + i ≡ i = omega arith in
     ap (λ (y : ℕ). getD (sets l 0 vs) y 0) (sym n) ∙ sets-at 0 l 0 vs i h (omega arith)

@@ -99,7 +99,7 @@ word-height pass sides o l =
 
 -- ---- stored, then linked
 
-forEach-length : (g : ℕ → Open → ℕ) (i : ℕ) (cs : List (List Open)) → length (forEach g i cs) ≡ length (flatten cs)
+pub forEach-length : (g : ℕ → Open → ℕ) (i : ℕ) (cs : List (List Open)) → length (forEach g i cs) ≡ length (flatten cs)
 unfolding flatten
 forEach-length g i [] = refl
 forEach-length g i (c ∷ cs) =

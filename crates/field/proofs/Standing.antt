@@ -1,40 +1,37 @@
 -- What stands after any calls from a fresh field on: a sound field, each column of which covers the spans accepted there.
 use mathlib.Core.Path.{_≡_, refl, sym, ap, subst, _∙_}
-use mathlib.Core.Logic.{_≢_, inl, inr, ⊎-elim}
+use mathlib.Core.Logic.{_≢_, inl, inr}
 use mathlib.Core.Bool.{true}
 use mathlib.Core.List.{List, [], _∷_, _++_, map}
 use Prim.Native.Nat.{ℕ, _+_, _*_, _<_, _≤_}
 use native.Mathlib.Omega.{arith}
-use native.Mathlib.Nat.{mul-le-mul-right, suc-mul, mul-comm}
-use native.Mathlib.Decide.{ℕ-discrete}
-use borrow.Author.Tests.{eq-eqb, ne-eqb}
 use lib.ListN.{length, take, length-replicate, length-take}
 use lib.Seq.{length-take-le}
+use lib.Ieee.{Float}
 use Rattle.replies.specs.Said.{Said, just, Asks}
 use Rattle.grid.specs.declared.Grid.{Grid}
-use Rattle.grid.specs.Grid.{width, height, columns, gridSays}
+use Rattle.grid.specs.Grid.{width, height, columns, gridSays, coordinateOk, coordinate, firstOutside}
+use Rattle.grid.proofs.Accepted.{accepted}
+use Rattle.clip.specs.declared.frame.Frame.{Frame}
+use Rattle.clip.specs.Work.{frameOf}
+use Rattle.clip.proofs.Works.{triangle-proper}
 use Rattle.field.specs.declared.Span.{Span}
-use Rattle.field.specs.Spans.{range, insertColumn}
+use Rattle.field.specs.Spans.{range}
 use Rattle.field.specs.Slots.{Contents, Slots}
-use Rattle.field.specs.Field.{Field, columnAt, spans, ranges, Holds, freshField, Inserted, insert}
-use Rattle.field.specs.Store.{Store, Fits, Fitting, Sound, cleared, Outcome, left, Admits, Becomes}
+use Rattle.field.specs.Field.{Field, spans, ranges, Holds, freshField, insert}
+use Rattle.field.specs.Store.{Store, Fits, Fitting, Sound, cleared, Outcome, left, Admits, Ends, Becomes}
 use Rattle.field.specs.Calls.{Made, made, IsFresh, Freshened, Inserts, Offers}
-use Rattle.field.specs.History.{Call, addSpan, filterLowObstacles, filterLedges, filterLowCeilings, Does, Step, History, start, then, Begins, Placed, placedBy, inColumn, acceptedIn}
 use Rattle.field.specs.Beside.{beside}
-use Rattle.field.specs.Filters.{Rule, filtered, raised, firm, roomed, Filters, Filtered}
-use Rattle.field.proofs.Basics.{by-dec, true-false}
-use Rattle.field.proofs.Contents.{ranges-spans}
-use Rattle.field.proofs.Walking.{insertRange, column-ranges}
-use Rattle.field.proofs.Accepting.{Kept, Accepts, insert-cases}
-use Rattle.field.proofs.Stretching.{Covers, covers-insert}
+use Rattle.field.specs.Filters.{Rule, filtered, raised, firm, roomed, lowObstacles, Filters, Filtered}
+use Rattle.field.specs.Carrying.{Meshed, placed, halted, saysOf, leaves}
+use Rattle.field.specs.Meshes.{Mesh, cornersOf, workOf, rasterized, Shaped, verticesSay, Builds, Takes, Given}
+use Rattle.field.specs.Populate.{filteredBy, afterwards, populated}
+use Rattle.field.specs.History.{Call, addSpan, filterLowObstacles, filterLedges, filterLowCeilings, rasterizeTriangles, populateFromTrimesh, Does, Step, History, start, then, Begins, Placed, putByMesh, placedBy, inColumn, acceptedIn}
+use Rattle.field.proofs.Basics.{by-test}
+use Rattle.field.proofs.Stretching.{Covers}
 use Rattle.field.proofs.Emptying.{fresh-covers}
 use Rattle.field.proofs.Unique.{store-fixed, field-fixed}
-use Rattle.field.proofs.Sweeping.{withAreas, filtered-holds}
-use Rattle.field.proofs.Filtering.{filtered-keeps-ranges}
-
--- a column of the grid
-pub cell-below : (x z w h : ℕ) → x < w → z < h → x + z * w < w * h
-cell-below x z w h p q = omega (arith, suc-mul z w, mul-le-mul-right w q, mul-comm w h)
+use Rattle.field.proofs.Growing.{Grown, cell-below, more, grows, filter-grows, mesh-grows}
 
 -- where `A i` are the spans accepted in column i
 pub record Standing (g : Grid) (A : ℕ → List Span) (s : Store) : Type 0 where
@@ -113,8 +110,9 @@ cleared-stands {s = s} S =
 
 -- ---- a call that leaves another field, of as many columns and slots
 
-pub becomes-stands : {g : Grid} {A : ℕ → List Span} {s : Store} (S : Standing g A s) (B : ℕ → List Span) (f : Field) (o : Outcome) → Kept (columns g) (length (s .slots .nexts)) f → Becomes (columns g) s f o → ((i : ℕ) → i < columns g → Covers (map range (B i)) (ranges f i)) → Standing g B (o .store)
-becomes-stands {g} {A} {s} S B f o K b covers =
+ends-stands : {g : Grid} {A : ℕ → List Span} {s : Store} (S : Standing g A s) (B : ℕ → List Span) (said : Said) (f : Field) (o : Outcome) → Grown (columns g) (length (s .slots .nexts)) B f → Ends (columns g) s said f o → Standing g B (o .store)
+ends-stands {g} {A} {s} S B said f o G b =
+    let K = G .kept in
     let k = store-fixed (K .holds) (b .holds) in
     let size : length (o .store .slots .nexts) ≡ length (s .slots .nexts) = ap (λ (t : Slots). length (t .nexts)) (sym (k .1)) ∙ K .size in
     record {
@@ -126,40 +124,14 @@ becomes-stands {g} {A} {s} S B f o K b covers =
           };
       field = f;
       holds = b .holds;
-      covers = covers;
+      covers = G .covers;
     }
 
 -- ---- one span
 
-ranges-new : (th : ℕ) (new : Span) (f f′ : Field) (i : ℕ) → spans f′ i ≡ insertColumn th new (spans f i) → ranges f′ i ≡ insertRange (range new) (ranges f i)
-ranges-new th new f f′ i e =
-    sym (ranges-spans (f′ .contents) (columnAt f′ i)) ∙ ap (map range) e ∙ column-ranges th new (spans f i)
-    ∙ ap (insertRange (range new)) (ranges-spans (f .contents) (columnAt f i))
-
-pub ranges-kept : (f f′ : Field) (i : ℕ) → spans f′ i ≡ spans f i → ranges f′ i ≡ ranges f i
-ranges-kept f f′ i e = sym (ranges-spans (f′ .contents) (columnAt f′ i)) ∙ ap (map range) e ∙ ranges-spans (f .contents) (columnAt f i)
-
--- the spans in a column once one more was placed in column c
-abbrev grown : ℕ → Span → (ℕ → List Span) → ℕ → List Span
-grown c new A i = inColumn i (record { column = c; span = new } ∷ []) ++ A i
-
-module _ {g : Grid} {A : ℕ → List Span} {s : Store} (S : Standing g A s) (x z : ℕ) (new : Span) (th : ℕ) (xw : x < width g) (zh : z < height g) (order : new .floor ≤ new .ceiling) where
-  abbrev column : ℕ
-  column = x + z * width g
-
-  in-heads : column < length (take (columns g) (s .heads))
-  in-heads = omega (arith, cell-below x z (width g) (height g) xw zh, first-long (S .fits))
-
-  grown-covers : (f : Field) → spans f column ≡ insertColumn th new (spans (S .field) column) → ((j : ℕ) → j ≢ column → spans f j ≡ spans (S .field) j) → (i : ℕ) → i < columns g → Covers (map range (grown column new A i)) (ranges f i)
-  grown-covers f here other i l =
-      by-dec (ℕ-discrete i column)
-      (λ e. rw (e, eq-eqb column column refl, ranges-new th new (S .field) f column here) (covers-insert (S .covers column (rw e at l)) (range new) order))
-      (λ d. rw (ne-eqb column i (λ e. d (sym e)), ranges-kept (S .field) f i (other i d)) (S .covers i l))
-
-  inserted : Accepts (length (take (columns g) (s .heads))) (length (s .slots .nexts)) th (S .field) column new (insert th (S .field) column new) → (o : Outcome) → Becomes (columns g) s (insert th (S .field) column new .field) o → Standing g (grown column new A) (o .store)
-  inserted a o b =
-      becomes-stands S (grown column new A) (insert th (S .field) column new .field) o (subst (λ (n : ℕ). Kept n (length (s .slots .nexts)) (insert th (S .field) column new .field)) (first-long (S .fits)) (a .kept)) b
-      (grown-covers (insert th (S .field) column new .field) (a .here) (a .other))
+-- the field by itself
+grown : {g : Grid} {A : ℕ → List Span} {s : Store} (S : Standing g A s) → Grown (columns g) (length (s .slots .nexts)) A (S .field)
+grown {g} {A} {s} S = record { kept = record { heads = take (columns g) (s .heads); slots = s .slots; holds = S .holds; columns = first-long (S .fits); size = refl }; covers = S .covers }
 
 -- the accepted spans after a call that said so
 abbrev after : Grid → Call → Said → (ℕ → List Span) → ℕ → List Span
@@ -176,10 +148,8 @@ module _ {g : Grid} {A : ℕ → List Span} {s : Store} (S : Standing g A s) (x 
       let c = x + z * width g in
       let yes : insert th (S .field) c new .accepted ≡ true = rw e at (a .0) in
       let b : Becomes (columns g) s (insert th (S .field) c new .field) o = rw e at (a .1) in
-      ⊎-elim
-      (λ k. subst (λ (d : Said). Standing g (after g (addSpan x z new th) d A) (o .store)) (sym (b .says)) (inserted S x z new th xw zh order k o b))
-      (λ k. absurd (true-false (sym yes ∙ ap (λ (r : Inserted). r .accepted) (k .is))))
-      (insert-cases (S .holds) c (in-heads S x z new th xw zh order) new th order)
+      subst (λ (d : Said). Standing g (after g (addSpan x z new th) d A) (o .store)) (sym (b .says))
+      (ends-stands S (more c new A) (just 0) (insert th (S .field) c new .field) o (grows (grown S) c (cell-below x z (width g) (height g) xw zh) new th order yes) b)
 
   ordered : x < width g → z < height g → Asks (new .floor ≤ new .ceiling) (left (just 9) (cleared s)) (Inserts (columns g) (x + z * width g) new th s) o → Standing g (after g (addSpan x z new th) (o .said) A) (o .store)
   ordered xw zh (inl a) = refused (just 9) refl (a .1)
@@ -208,17 +178,77 @@ admitted {g = g} {s = s} S ends Fitted next o fitted (inr a) = slices (a .1)
 filter-stands : {g : Grid} {A : ℕ → List Span} {s : Store} → Standing g A s → (rule : Field → Rule) (o : Outcome) → Filtered g (λ f. filtered (rule f) f) s o → Standing g A (o .store)
 filter-stands {g} {A} {s} S rule o d =
     let k = admitted S left (Fitting (columns g) s) (Filters (columns g) (λ f. filtered (rule f) f) s) o (S .fits) d in
-    let f = k .0 in
-    becomes-stands S A (filtered (rule f) f) o
-    (record {
-      heads = take (columns g) (s .heads);
-      slots = withAreas (s .slots) (filtered (rule f) f .contents .areas);
-      holds = filtered-holds (rule f) (k .1);
-      columns = first-long (S .fits);
-      size = refl;
-    })
-    (k .2)
-    (λ i l. rw (filtered-keeps-ranges (rule f) f i, field-fixed (k .1) (S .holds)) (S .covers i l))
+    let e = field-fixed (k .1) (S .holds) in
+    ends-stands S A (just 0) (filtered (rule (S .field)) (S .field)) o (filter-grows (rule (S .field)) (grown S)) (rw e at (k .2))
+
+-- ---- a mesh
+
+-- a refusal of its vertex numbers puts in nothing
+outside-puts : (g : Grid) (m : Mesh) (l : List Float) → firstOutside (map coordinate l) (just 0) .number ≢ 0 → putByMesh g m (firstOutside (map coordinate l) (just 0)) ≡ []
+unfolding firstOutside
+outside-puts g m [] d = absurd (d refl)
+outside-puts g m (x ∷ l) d = by-test (coordinateOk x) (λ e. rw e (outside-puts g m l (rw e at d))) (λ e. rw e refl)
+
+-- whatever is made of the field, as long as it stands for what its reply says
+module _ {g : Grid} {A : ℕ → List Span} {s : Store} (S : Standing g A s) (m : Mesh) (build : Field → Meshed) (o : Outcome)
+    (built : let r = build (S .field) in Grown (columns g) (length (s .slots .nexts)) (λ i. inColumn i (putByMesh g m (saysOf r)) ++ A i) (leaves r)) where
+  abbrev Stands : Said → Store → Type 0
+  Stands said t = Standing g (λ i. inColumn i (putByMesh g m said) ++ A i) t
+
+  none-put : (said : Said) (t : Store) → putByMesh g m said ≡ [] → o ≡ left said t → Standing g A t → Stands (o .said) (o .store)
+  none-put said t q e T = rw e (subst (λ (ps : List Placed). Standing g (λ i. inColumn i ps ++ A i) t) (sym q) T)
+
+  mesh-builds : Builds (columns g) build s o → Stands (o .said) (o .store)
+  mesh-builds (f, H, E) =
+      let r = build (S .field) in
+      let E′ : Ends (columns g) s (saysOf r) (leaves r) o = rw (field-fixed H (S .holds)) at E in
+      subst (λ (d : Said). Stands d (o .store)) (sym (E′ .says)) (ends-stands S (λ i. inColumn i (putByMesh g m (saysOf r)) ++ A i) (saysOf r) (leaves r) o built E′)
+
+  mesh-inside : Asks (verticesSay m .number ≡ 0) (left (verticesSay m) (cleared s)) (Builds (columns g) build s) o → Stands (o .said) (o .store)
+  mesh-inside (inl a) = none-put (verticesSay m) (cleared s) (outside-puts g m (m .vertices) (a .0)) (a .1) (cleared-stands S)
+  mesh-inside (inr a) = mesh-builds (a .1)
+
+  mesh-takes : Takes (columns g) m build s o → Stands (o .said) (o .store)
+  mesh-takes (inl a) = none-put (just 10) (cleared s) refl (a .1) (cleared-stands S)
+  mesh-takes (inr a) = mesh-inside (a .1)
+
+  mesh-sound : Asks (Sound (columns g) s) (left (just 14) (cleared s)) (Takes (columns g) m build s) o → Stands (o .said) (o .store)
+  mesh-sound (inl a) = absurd (a .0 (S .field, S .holds))
+  mesh-sound (inr a) = mesh-takes (a .1)
+
+  mesh-fits : Asks (Fitting (columns g) s × Shaped m) (left (just 4) s) (Asks (Sound (columns g) s) (left (just 14) (cleared s)) (Takes (columns g) m build s)) o → Stands (o .said) (o .store)
+  mesh-fits (inl a) = none-put (just 4) s refl (a .1) S
+  mesh-fits (inr a) = mesh-sound (a .1)
+
+  mesh-stands : Given g m build s o → Stands (o .said) (o .store)
+  mesh-stands (inl a) = absurd (a .0 (S .grid))
+  mesh-stands (inr a) = mesh-fits (a .1)
+
+module _ {g : Grid} {A : ℕ → List Span} {s : Store} (S : Standing g A s) (m : Mesh) (th : ℕ) where
+  abbrev frame : Frame
+  frame = frameOf g (width g) (height g)
+
+  -- the mesh alone
+  rasterized-grows : let r = rasterized frame m th (S .field) in Grown (columns g) (length (s .slots .nexts)) (λ i. inColumn i (putByMesh g m (saysOf r)) ++ A i) (leaves r)
+  unfolding frameOf
+  rasterized-grows =
+      let a = accepted g (S .grid) in
+      mesh-grows (width g) (height g) th (length (s .slots .nexts)) A (workOf frame m) (length (m .areas))
+      (λ t. triangle-proper frame (a .wide) (a .high) (cornersOf m t)) (length (m .areas)) 0 (S .field) (omega arith) (grown S)
+
+  -- and the filters after it
+  populated-grows : (tall : ℕ) → let r = populated frame m tall th (S .field) in Grown (columns g) (length (s .slots .nexts)) (λ i. inColumn i (putByMesh g m (saysOf r)) ++ A i) (leaves r)
+  unfolding frameOf
+  populated-grows tall = go (rasterized frame m th (S .field)) rasterized-grows
+    where
+      go : (r : Meshed) → Grown (columns g) (length (s .slots .nexts)) (λ i. inColumn i (putByMesh g m (saysOf r)) ++ A i) (leaves r)
+          → let r′ = afterwards (filteredBy (frame .width) (frame .height) tall th) r in Grown (columns g) (length (s .slots .nexts)) (λ i. inColumn i (putByMesh g m (saysOf r′)) ++ A i) (leaves r′)
+      go (placed f) G =
+          let low = filter-grows (λ i below s above. raised th below s) G in
+          let f₁ = lowObstacles th f in
+          let firm = filter-grows (λ i below s above. firm tall th (spans f₁) (beside (width g) (height g) i) s above) low in
+          filter-grows (λ i below s above. roomed tall s above) firm
+      go (halted reply t made f) G = G
 
 -- ---- any call, and any calls
 
@@ -227,6 +257,8 @@ does-stands {g} {A} {s} S (addSpan x z new th) o d = inside S x z new th o (admi
 does-stands S (filterLowObstacles climb) o d = filter-stands S (λ f i below s above. raised climb below s) o d
 does-stands {g} S (filterLedges tall climb) o d = filter-stands S (λ f i below s above. firm tall climb (spans f) (beside (width g) (height g) i) s above) o d
 does-stands S (filterLowCeilings tall) o d = filter-stands S (λ f i below s above. roomed tall s above) o d
+does-stands {g} S (rasterizeTriangles m th) o d = mesh-stands S m (rasterized (frameOf g (width g) (height g)) m th) o (rasterized-grows S m th) d
+does-stands {g} S (populateFromTrimesh m tall climb) o d = mesh-stands S m (populated (frameOf g (width g) (height g)) m tall climb) o (populated-grows S m climb tall) d
 
 pub history-stands : (g : Grid) (s : Store) → Begins g s → {steps : List Step} {t : Store} → History g s steps t → Standing g (λ i. acceptedIn g i steps) t
 history-stands g s b start = begins-stands g s b

@@ -12,16 +12,14 @@ use lib.Seq.{length-take-le, take-at, drop-at, drop-cons, drop-length}
 use lib.Ieee.{Float, nan}
 use Rattle.replies.specs.Said.{Said, real, say, just, Asks}
 use Rattle.grid.specs.declared.Grid.{Grid}
-use Rattle.grid.specs.Grid.{width, height, columns, gridSays, coordinateOk, coordinate, firstOutside}
+use Rattle.grid.specs.Grid.{columns, gridSays, coordinateOk, coordinate, firstOutside}
 use Rattle.grid.proofs.Accepted.{accepted}
-use Rattle.clip.specs.declared.frame.Frame.{Frame}
-use Rattle.clip.specs.Work.{frameOf}
 use Rattle.field.specs.Slots.{Slots}
 use Rattle.field.specs.Field.{Field, Holds, Held}
 use Rattle.field.specs.Store.{Store, store, Fitting, Sound, cleared, Outcome, left, Admits}
 use Rattle.field.specs.Inner.{Says}
-use Rattle.field.specs.Carrying.{saysOf, leaves}
-use Rattle.field.specs.Meshes.{Mesh, rasterized, Shaped, Named, verticesSay, Takes, Rasterized}
+use Rattle.field.specs.Carrying.{Meshed, saysOf, leaves}
+use Rattle.field.specs.Meshes.{Mesh, Shaped, Named, verticesSay, Builds, Takes, Given}
 use Rattle.field.proofs.Basics.{by-test}
 
 -- ---- reply 1 over the vertex numbers, one after another
@@ -45,34 +43,31 @@ module _ (l : List Float) (i : ℕ) (said : Said) (now : firstOutside (map coord
 
 -- ---- a mesh past its own tests
 
-module _ (w h : ℕ) (g : Grid) (m : Mesh) (th : ℕ) (heads : List ℕ) (t : Slots) (enough : w * h ≤ length heads) (held : Held (take (w * h) heads) t) {n : ℕ} (en : n ≡ w * h) where
+module _ (w h : ℕ) (heads : List ℕ) (t : Slots) (enough : w * h ≤ length heads) (held : Held (take (w * h) heads) t) {n : ℕ} (en : n ≡ w * h) where
   pub first-heads : length (take n heads) ≡ w * h
   first-heads = length-take-le n heads (omega arith) ∙ en
 
-  -- the first heads hold the field, with no others behind them
+  -- the first heads hold the field
+  pub first-held : Held (take n heads) t
+  first-held = rw en held
+
+  -- with no others behind them
   pub mesh-ready : (others : List ℕ) × Held (take n heads ++ others) t
   mesh-ready = ([], rw (append-nil (take n heads), en) held)
 
-  pub mesh-taken : (marks : List ℕ) → Named m → verticesSay m .number ≡ 0 → (f : Frame) → f ≡ frameOf g w h → (said : Said) (part : List ℕ) (t′ : Slots) → length part ≡ length (take n heads)
-      → ((others : List ℕ) (k : Field) → Holds (take n heads ++ others) t k → (said ≡ saysOf (rasterized f m th k)) × Holds (part ++ others) t′ (leaves (rasterized f m th k)))
-      → Takes w h g m th (store heads t marks) (left said (store (part ++ drop n heads) t′ (replicate (length (t .nexts)) 0)))
-  mesh-taken marks named inside f ef said part t′ size came =
-      let k = came [] (held .0) (rw (append-nil (take n heads), en) (held .1)) in
-      inr (
-        named,
-        inr (
-          inside,
-          (
-            held .0,
-            held .1,
-            record {
-              says = rw ef at (k .0);
-              holds = rw (take-at part (drop n heads) (w * h) (size ∙ first-heads)) (rw (append-nil part, ef) at (k .1));
-              beyond = rw (en, drop-at part (drop (w * h) heads) (w * h) (size ∙ first-heads));
-              marks = refl;
-            },
-          ),
-        ),
+  pub mesh-built : (build : Field → Meshed) (marks : List ℕ) (said : Said) (part : List ℕ) (t′ : Slots) → length part ≡ length (take n heads)
+      → ((k : Field) → Holds (take n heads) t k → (said ≡ saysOf (build k)) × Holds part t′ (leaves (build k)))
+      → Builds (w * h) build (store heads t marks) (left said (store (part ++ drop n heads) t′ (replicate (length (t .nexts)) 0)))
+  mesh-built build marks said part t′ size came =
+      let k = came (held .0) (rw en (held .1)) in (
+        held .0,
+        held .1,
+        record {
+          says = k .0;
+          holds = rw (take-at part (drop n heads) (w * h) (size ∙ first-heads)) (k .1);
+          beyond = rw (en, drop-at part (drop (w * h) heads) (w * h) (size ∙ first-heads));
+          marks = refl;
+        },
       )
 
 -- ---- the tests of every call, with those of the mesh's shape among them
@@ -82,7 +77,7 @@ pub some-columns : (g : Grid) → gridSays g .number ≡ 0 → 0 < columns g
 some-columns g e = let a = accepted g e in mul-pos (a .wide) (a .high)
 
 -- Code asks for as many heads as there are, or for none where the mesh has not its shape: then no grid is small enough.
-module _ (g : Grid) (m : Mesh) (th : ℕ) (s : Store) (shaped : Bool) (S : Says shaped (Shaped m)) (shortest : ℕ) (es : shortest ≡ cond shaped (length (s .heads)) 0) where
+module _ (g : Grid) (m : Mesh) (s : Store) (shaped : Bool) (S : Says shaped (Shaped m)) (shortest : ℕ) (es : shortest ≡ cond shaped (length (s .heads)) 0) where
   pub served : gridSays g .number ≡ 0 → columns g ≤ shortest → Shaped m
   served e h = by-test shaped (λ q. subst (λ (b : Bool). Says b (Shaped m)) q S) (λ q. absurd (omega (arith, some-columns g e, h, es ∙ ap (λ (b : Bool). cond b (length (s .heads)) 0) q)))
 
@@ -91,9 +86,9 @@ module _ (g : Grid) (m : Mesh) (th : ℕ) (s : Store) (shaped : Bool) (S : Says 
       by-test shaped (λ q. omega (arith, fit .fits .enough, es ∙ ap (λ (b : Bool). cond b (length (s .heads)) 0) q))
       (λ q. absurd (subst (λ (b : Bool). Says b (Shaped m)) q S p))
 
-  module _ (o : Outcome) where
+  module _ (build : Field → Meshed) (o : Outcome) where
     abbrev Next : Outcome → Type 0
-    Next = Takes (width g) (height g) g m th s
+    Next = Takes (columns g) m build s
 
     unsound : Asks (Sound (columns g) s) (left (just 14) (cleared s)) (λ o. ⊥) o → Asks (Sound (columns g) s) (left (just 14) (cleared s)) Next o
     unsound (inl a) = inl a
@@ -105,6 +100,18 @@ module _ (g : Grid) (m : Mesh) (th : ℕ) (s : Store) (shaped : Bool) (S : Says 
     unfit e (inr a) = inr ((a .0 .0, served e (a .0 .1)), unsound (a .1))
 
     -- refused by one of them
-    pub mesh-refused : Admits left g (Fitting (columns g) s × (columns g ≤ shortest)) s (λ o. ⊥) o → Rasterized g m th s o
+    pub mesh-refused : Admits left g (Fitting (columns g) s × (columns g ≤ shortest)) s (λ o. ⊥) o → Given g m build s o
     mesh-refused (inl a) = inl a
     mesh-refused (inr a) = inr (a .0, unfit (a .0) (a .1))
+
+-- ---- the tests of the mesh's numbers
+
+module _ (m : Mesh) (n : ℕ) (build : Field → Meshed) (s : Store) (said : Said) where
+  outside : Asks (verticesSay m .number ≡ 0) (verticesSay m) (λ o. ⊥) said → Asks (verticesSay m .number ≡ 0) (left (verticesSay m) (cleared s)) (Builds n build s) (left said (cleared s))
+  outside (inl a) = inl (a .0, ap (λ (k : Said). left k (cleared s)) (a .1))
+  outside (inr a) = absurd (a .1)
+
+  -- refused by one of them
+  pub numbers-refused : Asks (Named m) (just 10) (Asks (verticesSay m .number ≡ 0) (verticesSay m) (λ o. ⊥)) said → Takes n m build s (left said (cleared s))
+  numbers-refused (inl a) = inl (a .0, ap (λ (k : Said). left k (cleared s)) (a .1))
+  numbers-refused (inr a) = inr (a .0, outside (a .1))

@@ -4,7 +4,6 @@ pub mod Field
 pub mod Stretches
 pub mod Store
 pub mod Calls
-pub mod History
 pub mod Inner
 pub mod Marks
 pub mod Walkable
@@ -17,6 +16,9 @@ pub mod Open
 pub mod Links
 pub mod Compact
 pub mod Rowing
+pub mod Linked
 pub mod Carrying
 pub mod Meshes
+pub mod Populate
+pub mod History
 pub mod Working

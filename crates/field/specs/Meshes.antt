@@ -2,7 +2,7 @@
 use mathlib.Core.Path.{_≡_}
 use mathlib.Core.List.{List, [], _∷_, map}
 use Prim.Native.Nat.{ℕ, _+_, _*_, _/_, _%_, _<_, _≤_}
-use lib.ListN.{length, getD, take, drop, replicate}
+use lib.ListN.{length, getD, take}
 use lib.Ieee.{Float, nan}
 use Rattle.replies.specs.Said.{Said, just, Asks}
 use Rattle.grid.specs.declared.Corner.{Corner}
@@ -11,7 +11,7 @@ use Rattle.grid.specs.Grid.{width, height, columns, coordinate, firstOutside}
 use Rattle.clip.specs.declared.frame.Frame.{Frame}
 use Rattle.clip.specs.Work.{frameOf, triangleEvents}
 use Rattle.field.specs.Field.{Field, Holds}
-use Rattle.field.specs.Store.{Store, Fitting, cleared, Outcome, left, Admits}
+use Rattle.field.specs.Store.{Store, Fitting, cleared, Outcome, left, Admits, Ends}
 use Rattle.field.specs.Carrying.{Meshed, saysOf, leaves, Work, carryMesh}
 
 -- three numbers for each vertex, three vertex numbers for each triangle, and an area for each triangle
@@ -68,27 +68,20 @@ verticesSay m = firstOutside (map coordinate (m .vertices)) (just 0)
 
 -- ---- the call
 
--- The call says this and leaves this field. The heads past the `n` columns are as they were, and the marks are 0.
-pub record Ends (n : ℕ) (s : Store) (said : Said) (f : Field) (o : Outcome) : Type 0 where
-  pub says : o .said ≡ said
-  pub holds : Holds (take n (o .store .heads)) (o .store .slots) f
-  pub beyond : drop n (o .store .heads) ≡ drop n (s .heads)
-  pub marks : o .store .marks ≡ replicate (length (s .slots .nexts)) 0
-
--- the field that the store holds takes the mesh
-abbrev pub Rasterizes : ℕ → ℕ → Grid → Mesh → ℕ → Store → Outcome → Type 0
-Rasterizes w h g m threshold s o =
-    (f : Field)
-    × Holds (take (w * h) (s .heads)) (s .slots) f
-    × Ends (w * h) s (saysOf (rasterized (frameOf g w h) m threshold f)) (leaves (rasterized (frameOf g w h) m threshold f)) o
+-- the field that the store holds, and what `build` makes of it
+abbrev pub Builds : ℕ → (Field → Meshed) → Store → Outcome → Type 0
+Builds n build s o = (f : Field) × Holds (take n (s .heads)) (s .slots) f × Ends n s (saysOf (build f)) (leaves (build f)) o
 
 -- 10, then 1 over the vertex numbers, before the first cut
-abbrev pub Takes : ℕ → ℕ → Grid → Mesh → ℕ → Store → Outcome → Type 0
-Takes w h g m threshold s =
+abbrev pub Takes : ℕ → Mesh → (Field → Meshed) → Store → Outcome → Type 0
+Takes n m build s =
     Asks (Named m) (left (just 10) (cleared s))
     (Asks (verticesSay m .number ≡ 0) (left (verticesSay m) (cleared s))
-    (Rasterizes w h g m threshold s))
+    (Builds n build s))
 
 -- 1, 2, 3, 4, 14, then 10 and 1, then 0, 5, 6 or 7
+abbrev pub Given : Grid → Mesh → (Field → Meshed) → Store → Outcome → Type 0
+Given g m build s = Admits left g (Fitting (columns g) s × Shaped m) s (Takes (columns g) m build s)
+
 abbrev pub Rasterized : Grid → Mesh → ℕ → Store → Outcome → Type 0
-Rasterized g m threshold s = Admits left g (Fitting (columns g) s × Shaped m) s (Takes (width g) (height g) g m threshold s)
+Rasterized g m threshold = Given g m (rasterized (frameOf g (width g) (height g)) m threshold)

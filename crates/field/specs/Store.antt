@@ -60,9 +60,13 @@ Admits ends g Fitted s next =
     (Asks Fitted (ends (just 4) s)
     (Asks (Sound (columns g) s) (ends (just 14) (cleared s)) next))
 
--- The call is accepted: its store now holds the field `f`. The heads past the `n` columns are as they were, and the marks are 0.
-pub record Becomes (n : ℕ) (s : Store) (f : Field) (o : Outcome) : Type 0 where
-  pub says : o .said ≡ just 0
+-- The call says `said`, and its store now holds the field `f`. The heads past the `n` columns are as they were, and the marks are 0.
+pub record Ends (n : ℕ) (s : Store) (said : Said) (f : Field) (o : Outcome) : Type 0 where
+  pub says : o .said ≡ said
   pub holds : Holds (take n (o .store .heads)) (o .store .slots) f
   pub beyond : drop n (o .store .heads) ≡ drop n (s .heads)
   pub marks : o .store .marks ≡ replicate (length (s .slots .nexts)) 0
+
+-- it is accepted
+abbrev pub Becomes : ℕ → Store → Field → Outcome → Type 0
+Becomes n s = Ends n s (just 0)

@@ -6,3 +6,4 @@ pub mod Around
 pub mod CompactCall
 pub mod Filtered
 pub mod Rasterizing
+pub mod MeshAdmitted

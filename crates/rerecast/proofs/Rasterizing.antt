@@ -11,11 +11,12 @@ use lib.ListN.{length}
 use lib.Ieee.{Float}
 use borrow.Author.Tests.{leb-true}
 use Rattle.grid.specs.declared.Corner.{Corner}
+use Rattle.grid.specs.declared.Grid.{Grid}
 use Rattle.clip.specs.declared.cut.Axis.{Axis}
 use Rattle.clip.specs.declared.cut.Counts.{Counts}
 use Rattle.clip.specs.declared.frame.Frame.{Frame}
 use Rattle.clip.specs.Arrays.{Arrays, polygonAt, half, Divided, divideOf}
-use Rattle.clip.specs.Work.{Event, insert as offer, stop, andThen}
+use Rattle.clip.specs.Work.{Event, insert as offer, stop, andThen, frameOf}
 use Rattle.clip.proofs.Places.{Long}
 use Rattle.field.specs.Slots.{Slots}
 use Rattle.field.specs.Field.{Field, Holds, Inserted, insert}
@@ -25,14 +26,14 @@ use Rattle.field.proofs.Basics.{by-test}
 use Rattle.field.proofs.Carrying.{madeIn, made-few, insertion-made, insertion-refused, remains-then, remains-as}
 use Rattle.field.proofs.Slicing.{turns-turn}
 use Rattle.rerecast.specs.Inner.{Lands}
-use Rattle.rerecast.specs.Rasterize.{numberOf, madeBy, leftBy, Carries, Ready}
+use Rattle.rerecast.specs.Rasterize.{numberOf, madeBy, leftBy, Carries, Sides, Ready}
 use Rattle.rerecast.specs.declared.insertion.Landing.{Landing}
 use Rattle.rerecast.specs.declared.insertion.Landing.the-variants.{Landed, Refused}
-use Rattle.rerecast.specs.declared.rows.Job.{Job}
-use Rattle.rerecast.specs.declared.rows.Step.{Step}
-use Rattle.rerecast.specs.declared.rows.Step.the-variants.{Went, Stopped}
-use Rattle.rerecast.specs.declared.rows.Stop.{Stop}
-use Rattle.rerecast.specs.declared.rows.Stop.the-variants.{NoSlot}
+use Rattle.rerecast.specs.declared.turns.Job.{Job}
+use Rattle.rerecast.specs.declared.turns.Step.{Step}
+use Rattle.rerecast.specs.declared.turns.Step.the-variants.{Went, Stopped}
+use Rattle.rerecast.specs.declared.turns.Stop.{Stop}
+use Rattle.rerecast.specs.declared.turns.Stop.the-variants.{NoSlot}
 
 -- ---- one insertion
 
@@ -120,3 +121,8 @@ pub record Alike (heads heads′ floors floors′ ceilings ceilings′ areas are
 -- the heads are still as many
 pub again : {f : Frame} (heads : List ℕ) (heads′ : List ℕ) → Ready f heads → length heads′ ≡ length heads → Ready f heads′
 again heads heads′ R e = record { sides = R .sides; all = e ∙ R .all }
+
+-- a frame over the first heads of a store
+pub framed : (g : Grid) (w h : ℕ) {f : Frame} {heads : List ℕ} → f ≡ frameOf g w h → Sides w h → length heads ≡ w * h → Ready f heads
+unfolding frameOf
+framed g w h {f} {heads} e s n = subst (λ (k : Frame). Ready k heads) (sym e) (record { sides = s; all = n })

@@ -3,3 +3,4 @@ pub mod Inner
 pub mod Compacting
 pub mod PreFilter
 pub mod Rasterize
+pub mod MeshAdmission

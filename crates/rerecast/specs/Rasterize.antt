@@ -4,7 +4,7 @@ use mathlib.Core.List.{List, [], _∷_}
 use Prim.Native.Nat.{ℕ, _-_, _*_, _<_, _≤_}
 use lib.ListN.{length}
 use lib.Ieee.{Float}
-use Rattle.replies.specs.Said.{Said, real, say, just}
+use Rattle.replies.specs.Said.{Said, whole, say, just}
 use Rattle.grid.specs.declared.Corner.{Corner}
 use Rattle.clip.specs.declared.cut.Counts.{Counts}
 use Rattle.clip.specs.declared.frame.Frame.{Frame}
@@ -13,27 +13,25 @@ use Rattle.field.specs.Slots.{Slots}
 use Rattle.field.specs.Field.{Field, Holds}
 use Rattle.field.specs.Carrying.{Meshed, saysOf, leaves, Work, carry}
 use Rattle.field.specs.Working.{Remains, turnEvents}
-use Rattle.rerecast.specs.Answer.{saidOf}
-use Rattle.rerecast.specs.declared.Reply.{Reply}
-use Rattle.rerecast.specs.declared.rows.Job.{Job}
-use Rattle.rerecast.specs.declared.rasterize.Limits.{Limits}
-use Rattle.rerecast.specs.declared.rasterize.Limits.the-variants.{Inside, Outside}
-use Rattle.rerecast.specs.declared.rows.Part.{Part}
-use Rattle.rerecast.specs.declared.rows.Part.the-variants as part
-use Rattle.rerecast.specs.declared.rows.Step.{Step}
-use Rattle.rerecast.specs.declared.rows.Step.the-variants.{Went, Stopped}
-use Rattle.rerecast.specs.declared.rows.Stop.{Stop}
-use Rattle.rerecast.specs.declared.rows.Stop.the-variants.{NoSlot, EighthVertex, TooHigh}
+use Rattle.rerecast.specs.declared.turns.Job.{Job}
+use Rattle.rerecast.specs.declared.rasterize.Ending.{Ending}
+use Rattle.rerecast.specs.declared.rasterize.Ending.the-variants.{Placed, Halted}
+use Rattle.rerecast.specs.declared.turns.Part.{Part}
+use Rattle.rerecast.specs.declared.turns.Part.the-variants as part
+use Rattle.rerecast.specs.declared.turns.Step.{Step}
+use Rattle.rerecast.specs.declared.turns.Step.the-variants.{Went, Stopped}
+use Rattle.rerecast.specs.declared.turns.Stop.{Stop}
+use Rattle.rerecast.specs.declared.turns.Stop.the-variants.{NoSlot, EighthVertex, TooHigh}
 
 abbrev pub numberOf : Stop → ℕ
 numberOf NoSlot = 5
 numberOf EighthVertex = 6
 numberOf TooHigh = 7
 
--- what a test of the vertex numbers says
-abbrev pub limitsSay : Limits → Said
-limitsSay Inside = just 0
-limitsSay (Outside x) = say 1 (real x ∷ [])
+-- what a mesh that ended says
+abbrev pub endingSays : Ending → Said
+endingSays Placed = just 0
+endingSays (Halted why t made) = say (numberOf why) (whole t ∷ whole made ∷ [])
 
 -- how many insertions were made, and what is left of the work: nothing, or its stop
 abbrev pub madeBy : Step → ℕ
@@ -53,9 +51,9 @@ Carries job made f es r heads t =
 abbrev pub Worked : Frame → ℕ → Work → Field → Step → List ℕ → Slots → Type 0
 Worked frame threshold w f r heads t = Remains (frame .width) threshold (w .area) (carry (frame .width) threshold (w .area) 0 f (w .events)) (madeBy r) (leftBy r) heads t
 
--- a mesh came to `o`: the reply says so, and the store holds the field that it leaves
-pub record MeshWorked (o : Meshed) (r : Reply) (heads : List ℕ) (t : Slots) : Type 0 where
-  pub says : saidOf r ≡ saysOf o
+-- a mesh came to `o`: its ending says so, and the store holds the field that it leaves
+pub record MeshWorked (o : Meshed) (e : Ending) (heads : List ℕ) (t : Slots) : Type 0 where
+  pub says : endingSays e ≡ saysOf o
   pub holds : Holds heads t (leaves o)
 
 -- what the counts of a cut say of row or column k

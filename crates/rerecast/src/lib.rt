@@ -6,11 +6,13 @@ pub mod heightfield;
 mod insertion;
 mod ledges;
 mod links;
+mod mesh_admission;
 pub mod pre_filter;
-mod rasterize;
+pub mod rasterize;
 mod rows;
 mod slices;
 mod soundness;
+mod turns;
 
 ghost use mathlib.Core.Path.{_≡_};
 ghost use Rattle.rerecast.specs.Answer.{saidOf};

@@ -1,28 +1,31 @@
 // Triangles to spans: a triangle is cut into rows, a row into columns, and a cell's part becomes a span of the store.
 use crate::Reply;
-use crate::rows::Job;
-use crate::rows::Step;
-use crate::rows::Stop;
-use crate::rows::first_of;
+use crate::admission::Admission;
+use crate::admission::columns_of;
+use crate::mesh_admission::admit_mesh;
 use crate::rows::rows;
 use crate::slices::index;
+use crate::turns::Job;
+use crate::turns::Step;
+use crate::turns::Stop;
+use crate::turns::first_of;
 use clip::frame::Frame;
+use clip::frame::frame_of;
 use grid::Corner;
+use grid::Grid;
 ghost use mathlib.Core.Path.{_≡_};
-ghost use mathlib.Core.Bool.{cond};
-ghost use mathlib.Core.List.{List, [], _∷_, _++_, map};
-ghost use Prim.Native.Nat.{ℕ, _/_, _<_};
-ghost use lib.ListN.{length, getD};
-ghost use Rattle.replies.specs.Said.{whole, say, just};
-ghost use Rattle.grid.specs.Grid.{coordinate, firstOutside};
+ghost use mathlib.Core.List.{List, [], _∷_, _++_};
+ghost use Prim.Native.Nat.{ℕ, _*_, _/_, _<_, _≤_};
+ghost use lib.ListN.{length, getD, take, replicate};
+ghost use Rattle.replies.specs.Said.{whole, say};
 ghost use Rattle.clip.specs.Arrays.{numbersAt};
-ghost use Rattle.clip.specs.Work.{triangleEvents};
+ghost use Rattle.clip.specs.Work.{frameOf, triangleEvents};
 ghost use Rattle.field.specs.Slots.{slots};
 ghost use Rattle.field.specs.Field.{Field, Holds, Held};
-ghost use Rattle.field.specs.Inner.{Says};
-ghost use Rattle.field.specs.Meshes.{mesh, cornerAt, workOf, rasterized, Shape, Shaped, Named};
+ghost use Rattle.field.specs.Store.{store, left};
+ghost use Rattle.field.specs.Meshes.{mesh, single, cornerAt, workOf, rasterized, Shaped, Named, Builds, Rasterized};
 ghost use Rattle.rerecast.specs.Answer.{saidOf};
-ghost use Rattle.rerecast.specs.Rasterize.{numberOf, limitsSay, Carries, Worked, MeshWorked, Ready};
+ghost use Rattle.rerecast.specs.Rasterize.{numberOf, endingSays, Carries, Worked, MeshWorked, Sides, Ready};
 
 // An array that begins with three numbers.
 fn three(a: f32, b: f32, c: f32) -> [f32; 28]
@@ -122,6 +125,21 @@ fn triangle_at(
     triangle(heads, free, floors, ceilings, areas, nexts, job, a, b, c)
 }
 
+// How a mesh ended: all of it was placed, or it stopped at a triangle, with so many of that triangle's insertions made.
+pub(crate) enum Ending {
+    Placed,
+    Halted(Stop, u32, u32),
+}
+
+pub(crate) fn reply_of(ending: Ending) -> Reply
+    ensures { λ r. ⌜ saidOf r ≡ endingSays ending ⌝ }
+{
+    match ending {
+        Ending::Placed => Reply::Accepted,
+        Ending::Halted(why, t, made) => halted(why, t, made),
+    }
+}
+
 // The reply of a mesh that stopped at triangle t.
 fn halted(why: Stop, t: u32, made: u32) -> Reply
     ensures { λ r. ⌜ saidOf r ≡ say (numberOf why) (whole t ∷ whole made ∷ []) ⌝ }
@@ -146,7 +164,7 @@ pub(crate) fn triangles(
     indices: &[u32],
     triangle_areas: &[u8],
     threshold: u16,
-) -> Reply
+) -> Ending
     requires { ⌜ Ready frame (now heads) × Shaped (mesh (now vertices) (now indices) (now «triangle_areas»)) × Named (mesh (now vertices) (now indices) (now «triangle_areas»)) ⌝ }
     requires { ⌜ ((others : List ℕ) × Held (now heads ++ others) (slots (now free) (now floors) (now ceilings) (now areas) (now nexts))) ⌝ }
     ensures { λ r. ⌜ ((others : List ℕ) (f : Field) → Holds (now (heads .entry) ++ others) (slots (now (free .entry)) (now (floors .entry)) (now (ceilings .entry)) (now (areas .entry)) (now (nexts .entry))) f → MeshWorked (rasterized frame (mesh (now (vertices .entry)) (now (indices .entry)) (now («triangle_areas» .entry))) threshold f) r (now (heads .exit) ++ others) (slots (now (free .exit)) (now (floors .exit)) (now (ceilings .exit)) (now (areas .exit)) (now (nexts .exit)))) ⌝ }
@@ -168,66 +186,136 @@ pub(crate) fn triangles(
             t,
         );
         if let Step::Stopped(why, made) = step {
-            return halted(why, t as u32, made);
+            return Ending::Halted(why, t as u32, made);
         }
         t += 1;
     }
-    Reply::Accepted
+    Ending::Placed
 }
 
-// ---- the tests of a mesh
+// ---- the calls
 
-// Have vertices, indices and areas of these lengths a mesh's shape?
-fn mesh_shaped(vertices: usize, indices: usize, triangles: usize) -> bool
-    ensures { λ r. ⌜ Says r (Shape vertices indices triangles) ⌝ }
+// A mesh that has passed its tests, on a field that is known to be sound.
+fn take_mesh(
+    heads: &mut [u32],
+    free: &mut u32,
+    floors: &mut [u16],
+    ceilings: &mut [u16],
+    areas: &mut [u8],
+    nexts: &mut [u32],
+    grid: Grid,
+    width: u32,
+    height: u32,
+    vertices: &[f32],
+    indices: &[u32],
+    triangle_areas: &[u8],
+    threshold: u16,
+) -> Reply
+    requires { ⌜ Sides width height × (width * height ≤ length (now heads)) × Shaped (mesh (now vertices) (now indices) (now «triangle_areas»)) × Named (mesh (now vertices) (now indices) (now «triangle_areas»)) ⌝ }
+    requires { ⌜ Held (take (width * height) (now heads)) (slots (now free) (now floors) (now ceilings) (now areas) (now nexts)) ⌝ }
+    ensures { λ r. ⌜ ((marks : List ℕ) → Builds (width * height) (rasterized (frameOf grid width height) (mesh (now (vertices .entry)) (now (indices .entry)) (now («triangle_areas» .entry))) threshold) (store (now (heads .entry)) (slots (now (free .entry)) (now (floors .entry)) (now (ceilings .entry)) (now (areas .entry)) (now (nexts .entry))) marks) (left (saidOf r) (store (now (heads .exit)) (slots (now (free .exit)) (now (floors .exit)) (now (ceilings .exit)) (now (areas .exit)) (now (nexts .exit))) (replicate (length (now (nexts .entry))) 0)))) ⌝ }
 {
-    if vertices % 3 != 0 {
-        return false;
-    }
-    if triangles > 16777216 {
-        return false;
-    }
-    indices == triangles * 3
+    let n = columns_of(width, height);
+    let frame = frame_of(grid, width, height);
+    let ending = triangles(
+        &mut heads[..n],
+        free,
+        floors,
+        ceilings,
+        areas,
+        nexts,
+        frame,
+        vertices,
+        indices,
+        triangle_areas,
+        threshold,
+    );
+    reply_of(ending)
 }
 
-// For the shared tests in front of a call: all heads serve where the mesh has its shape, and where it has not no grid is small enough.
-fn heads_served(heads: usize, shaped: bool) -> usize
-    ensures { λ r. ⌜ r ≡ cond shaped heads 0 ⌝ }
+// Puts the triangles of a mesh into the field, each with its area, up to the first that stops.
+pub fn rasterize_triangles(
+    grid: Grid,
+    heads: &mut [u32],
+    free: &mut u32,
+    floors: &mut [u16],
+    ceilings: &mut [u16],
+    areas: &mut [u8],
+    nexts: &mut [u32],
+    marks: &mut [u8],
+    vertices: &[f32],
+    indices: &[u32],
+    triangle_areas: &[u8],
+    threshold: u16,
+) -> Reply
+    ensures { λ r. ⌜ Rasterized grid (mesh (now (vertices .entry)) (now (indices .entry)) (now («triangle_areas» .entry))) threshold (store (now (heads .entry)) (slots (now (free .entry)) (now (floors .entry)) (now (ceilings .entry)) (now (areas .entry)) (now (nexts .entry))) (now (marks .entry))) (left (saidOf r) (store (now (heads .exit)) (slots (now (free .exit)) (now (floors .exit)) (now (ceilings .exit)) (now (areas .exit)) (now (nexts .exit))) (now (marks .exit)))) ⌝ }
 {
-    if shaped { heads } else { 0 }
-}
-
-// Does each index name a vertex?
-fn all_named(indices: &[u32], count: usize) -> bool
-    ensures { λ r. ⌜ Says r ((k : ℕ) → k < length (now (indices .entry)) → getD (now (indices .entry)) k 0 < count) ⌝ }
-{
-    let mut i = 0;
-    while i < indices.len() {
-        if index(indices[i]) >= count {
-            return false;
-        }
-        i += 1;
+    let admission = admit_mesh(
+        grid,
+        heads,
+        *free,
+        floors,
+        ceilings,
+        areas,
+        nexts,
+        marks,
+        vertices,
+        indices,
+        triangle_areas,
+    );
+    match admission {
+        Admission::Refused(r) => r,
+        Admission::Granted(width, height) => take_mesh(
+            heads,
+            free,
+            floors,
+            ceilings,
+            areas,
+            nexts,
+            grid,
+            width,
+            height,
+            vertices,
+            indices,
+            triangle_areas,
+            threshold,
+        ),
     }
-    true
 }
 
-// What a test of the vertex numbers finds.
-enum Limits {
-    Inside,
-    // the first that is outside
-    Outside(f32),
-}
-
-fn vertex_limits(vertices: &[f32]) -> Limits
-    ensures { λ r. ⌜ limitsSay r ≡ firstOutside (map coordinate (now (vertices .entry))) (just 0) ⌝ }
+// Puts one triangle into the field: a mesh of one.
+pub fn rasterize_triangle(
+    grid: Grid,
+    heads: &mut [u32],
+    free: &mut u32,
+    floors: &mut [u16],
+    ceilings: &mut [u16],
+    areas: &mut [u8],
+    nexts: &mut [u32],
+    marks: &mut [u8],
+    a: Corner,
+    b: Corner,
+    c: Corner,
+    area: u8,
+    threshold: u16,
+) -> Reply
+    ensures { λ r. ⌜ Rasterized grid (single a b c area) threshold (store (now (heads .entry)) (slots (now (free .entry)) (now (floors .entry)) (now (ceilings .entry)) (now (areas .entry)) (now (nexts .entry))) (now (marks .entry))) (left (saidOf r) (store (now (heads .exit)) (slots (now (free .exit)) (now (floors .exit)) (now (ceilings .exit)) (now (areas .exit)) (now (nexts .exit))) (now (marks .exit)))) ⌝ }
 {
-    let mut i = 0;
-    while i < vertices.len() {
-        let x = vertices[i];
-        if !grid::coordinate(x) {
-            return Limits::Outside(x);
-        }
-        i += 1;
-    }
-    Limits::Inside
+    let vertices = [a.x, a.y, a.z, b.x, b.y, b.z, c.x, c.y, c.z];
+    let indices = [0u32, 1, 2];
+    let triangle_areas = [area];
+    rasterize_triangles(
+        grid,
+        heads,
+        free,
+        floors,
+        ceilings,
+        areas,
+        nexts,
+        marks,
+        &vertices,
+        &indices,
+        &triangle_areas,
+        threshold,
+    )
 }

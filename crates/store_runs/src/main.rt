@@ -1,25 +1,27 @@
 // Runs of the store of spans that a simulator that grows its store never makes: full stores, a store of one slot, slices and grids that do not fit, and
 // fields damaged in every way. Each line has the call, the number of its reply, and what is left.
-use field::NONE;
 use field::Span;
 use grid::Corner;
 use grid::Grid;
 use rerecast::Reply;
 use rerecast::heightfield;
+
+mod damage;
+
 ghost use mathlib.Core.Path.{_≡_};
 ghost use Prim.Native.Nat.{_≤_};
 ghost use lib.ListN.{length};
 
 // All that is lent: of the slots the first few. The grid has two columns, so the last two heads are past what is needed.
-struct Store {
-    slots: usize,
-    heads: [u32; 4],
-    free: u32,
-    floors: [u16; 4],
-    ceilings: [u16; 4],
-    areas: [u8; 4],
-    nexts: [u32; 4],
-    marks: [u8; 4],
+pub(crate) struct Store {
+    pub(crate) slots: usize,
+    pub(crate) heads: [u32; 4],
+    pub(crate) free: u32,
+    pub(crate) floors: [u16; 4],
+    pub(crate) ceilings: [u16; 4],
+    pub(crate) areas: [u8; 4],
+    pub(crate) nexts: [u32; 4],
+    pub(crate) marks: [u8; 4],
 }
 
 // What a call answered and left.
@@ -28,7 +30,7 @@ struct Ran {
     store: Store,
 }
 
-fn say(s: &[u8]) {
+pub(crate) fn say(s: &[u8]) {
     io::write_all(1, s);
 }
 
@@ -274,7 +276,7 @@ fn try_fresh(name: &[u8], s: Store, grid: Grid) -> Store {
     row(name, s, fresh(s, grid))
 }
 
-fn try_add(name: &[u8], s: Store, x: u32, z: u32, floor: u16, ceiling: u16) -> Store {
+pub(crate) fn try_add(name: &[u8], s: Store, x: u32, z: u32, floor: u16, ceiling: u16) -> Store {
     let span = Span {
         floor,
         ceiling,
@@ -364,98 +366,10 @@ fn refused_stores() {
     );
 }
 
-// A sound field: [2,5] and [7,9] in column 0 (slots 0 and 1), [1,1] in column 1 (slot 2), slot 3 free.
-fn sound() -> Store {
-    Store {
-        slots: 4,
-        heads: [0, 2, 7, 7],
-        free: 3,
-        floors: [2, 7, 1, 0],
-        ceilings: [5, 9, 1, 0],
-        areas: [1, 2, 3, 0],
-        nexts: [1, NONE, NONE, NONE],
-        marks: [9; 4],
-    }
-}
-
-// The sound field with one thing wrong.
-fn with_heads(heads: [u32; 4]) -> Store {
-    let mut s = sound();
-    s.heads = heads;
-    s
-}
-
-fn with_free(free: u32) -> Store {
-    let mut s = sound();
-    s.free = free;
-    s
-}
-
-fn with_nexts(nexts: [u32; 4]) -> Store {
-    let mut s = sound();
-    s.nexts = nexts;
-    s
-}
-
-fn with_floors(floors: [u16; 4]) -> Store {
-    let mut s = sound();
-    s.floors = floors;
-    s
-}
-
-fn with_ceilings(ceilings: [u16; 4]) -> Store {
-    let mut s = sound();
-    s.ceilings = ceilings;
-    s
-}
-
-fn damaged(name: &[u8], s: Store) {
-    try_add(name, s, 0, 0, 20, 21);
-}
-
-fn damaged_fields() {
-    say(b"[20,21] at 0,0 offered to a field that is damaged\n");
-    damaged(b"  in no way                       ", sound());
-    damaged(
-        b"  in no way: a span right above   ",
-        with_floors([2, 6, 1, 0]),
-    );
-    damaged(
-        b"  a column runs in a circle       ",
-        with_nexts([0, NONE, NONE, NONE]),
-    );
-    damaged(
-        b"  a slot in two columns           ",
-        with_heads([0, 1, 7, 7]),
-    );
-    damaged(b"  a free slot in a column         ", with_free(2));
-    damaged(b"  a slot in no chain              ", with_free(NONE));
-    damaged(
-        b"  a head names no slot            ",
-        with_heads([0, 4, 7, 7]),
-    );
-    damaged(
-        b"  a next names no slot            ",
-        with_nexts([1, 4, NONE, NONE]),
-    );
-    damaged(
-        b"  a floor above its ceiling       ",
-        with_floors([6, 7, 1, 0]),
-    );
-    damaged(
-        b"  two spans share a height        ",
-        with_ceilings([7, 9, 1, 0]),
-    );
-    damaged(
-        b"  a column does not ascend        ",
-        with_floors([2, 0, 1, 0]),
-    );
-}
-
 fn main() {
     full_store();
     one_slot();
     refused_spans();
     refused_stores();
-    damaged_fields();
+    damage::damaged_fields();
 }

@@ -4,7 +4,7 @@ use mathlib.Core.Path.{_≡_, sym, ap}
 use mathlib.Core.List.{[], _∷_}
 use Rattle.replies.specs.Said.{Said, whole, say}
 use Rattle.rerecast.specs.Rasterize.{numberOf}
-use Rattle.rerecast.specs.declared.rows.Stop.{Stop}
+use Rattle.rerecast.specs.declared.turns.Stop.{Stop}
 use Rattle.rerecast.proofs.rasterize.halted.Statement.{statement}
 use Rattle.rerecast.proofs.rasterize.halted.Tie as tie
 

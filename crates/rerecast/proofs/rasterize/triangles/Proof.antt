@@ -12,8 +12,8 @@ use Rattle.field.specs.Meshes.{Mesh, mesh, workOf, rasterized}
 use Rattle.field.specs.Working.{MeshRemains}
 use Rattle.field.proofs.Meshing.{mesh-begins, mesh-on, mesh-halts-says, mesh-halts-holds, mesh-ends-says, mesh-ends-holds}
 use Rattle.rerecast.specs.Rasterize.{numberOf, Worked}
-use Rattle.rerecast.specs.declared.rows.Step.{Step}
-use Rattle.rerecast.specs.declared.rows.Step.the-variants.{Went, Stopped}
+use Rattle.rerecast.specs.declared.turns.Step.{Step}
+use Rattle.rerecast.specs.declared.turns.Step.the-variants.{Went, Stopped}
 use Rattle.rerecast.proofs.Rasterizing.{Alike, again}
 use Rattle.rerecast.proofs.rasterize.triangles.Statement.{statement}
 use Rattle.rerecast.proofs.rasterize.triangles.Tie as tie
@@ -62,37 +62,34 @@ triangle-at-requires c κs =
 enum-known-step : tie.Need-enum-known-step Inv-loop μ-loop
 enum-known-step c = search needs
 
-cast-halted : tie.Need-cast-halted Inv-loop μ-loop
-cast-halted c = record { fits = omega (arith, c .before .before .before .before .before .before .before .before .before .before .before .before .before .before .before .before .before .before .before .before .loop-test .taken, c .before .before .before .before .before .before .before .before .before .before .before .before .before .before .before .before .before .before .before .before .before .before .before .before .before .before .before .before .before .before .pre .0 .1 .few) }
-
-halted-requires : tie.Need-halted-requires Inv-loop μ-loop
-halted-requires c κs = tt
+cast-t29 : tie.Need-cast-t29 Inv-loop μ-loop
+cast-t29 c = record { fits = omega (arith, c .before .before .before .before .before .before .before .before .before .before .before .before .before .before .before .before .before .before .before .before .loop-test .taken, c .before .before .before .before .before .before .before .before .before .before .before .before .before .before .before .before .before .before .before .before .before .before .before .before .before .before .before .before .before .before .pre .0 .1 .few) }
 
 same-length : tie.Need-same-length Inv-loop μ-loop
-same-length c = c .before .before .before .before .before .before .before .before .before .before .before .before .before .before .triangle-at .kept .0 ∙ c .before .before .before .before .before .before .before .before .before .before .before .before .before .before .before .before .before .before .before .before .before .before .loop .inv .0 .heads-as
+same-length c = c .before .before .before .before .before .before .before .before .before .before .before .before .before .triangle-at .kept .0 ∙ c .before .before .before .before .before .before .before .before .before .before .before .before .before .before .before .before .before .before .before .before .before .loop .inv .0 .heads-as
 
 same-length-2 : tie.Need-same-length-2 Inv-loop μ-loop
-same-length-2 c = c .before .before .before .before .before .before .before .before .before .before .before .before .before .before .triangle-at .kept .1 .1 .0 ∙ c .before .before .before .before .before .before .before .before .before .before .before .before .before .before .before .before .before .before .before .before .before .before .loop .inv .0 .floors-as
+same-length-2 c = c .before .before .before .before .before .before .before .before .before .before .before .before .before .triangle-at .kept .1 .1 .0 ∙ c .before .before .before .before .before .before .before .before .before .before .before .before .before .before .before .before .before .before .before .before .before .loop .inv .0 .floors-as
 
 same-length-3 : tie.Need-same-length-3 Inv-loop μ-loop
-same-length-3 c = c .before .before .before .before .before .before .before .before .before .before .before .before .before .before .triangle-at .kept .1 .1 .1 .0 ∙ c .before .before .before .before .before .before .before .before .before .before .before .before .before .before .before .before .before .before .before .before .before .before .loop .inv .0 .ceilings-as
+same-length-3 c = c .before .before .before .before .before .before .before .before .before .before .before .before .before .triangle-at .kept .1 .1 .1 .0 ∙ c .before .before .before .before .before .before .before .before .before .before .before .before .before .before .before .before .before .before .before .before .before .loop .inv .0 .ceilings-as
 
 same-length-4 : tie.Need-same-length-4 Inv-loop μ-loop
-same-length-4 c = c .before .before .before .before .before .before .before .before .before .before .before .before .before .before .triangle-at .kept .1 .1 .1 .1 .0 ∙ c .before .before .before .before .before .before .before .before .before .before .before .before .before .before .before .before .before .before .before .before .before .before .loop .inv .0 .areas-as
+same-length-4 c = c .before .before .before .before .before .before .before .before .before .before .before .before .before .triangle-at .kept .1 .1 .1 .1 .0 ∙ c .before .before .before .before .before .before .before .before .before .before .before .before .before .before .before .before .before .before .before .before .before .loop .inv .0 .areas-as
 
 same-length-5 : tie.Need-same-length-5 Inv-loop μ-loop
-same-length-5 c = c .before .before .before .before .before .before .before .before .before .before .before .before .before .before .triangle-at .kept .1 .1 .1 .1 .1 .0 ∙ c .before .before .before .before .before .before .before .before .before .before .before .before .before .before .before .before .before .before .before .before .before .before .loop .inv .0 .nexts-as
+same-length-5 c = c .before .before .before .before .before .before .before .before .before .before .before .before .before .triangle-at .kept .1 .1 .1 .1 .1 .0 ∙ c .before .before .before .before .before .before .before .before .before .before .before .before .before .before .before .before .before .before .before .before .before .loop .inv .0 .nexts-as
 
 returns : tie.Need-returns Inv-loop μ-loop
 returns c others f H =
-    let done = c .before .before .before .before .before .before .before .before .before .before .before .before .before .before in
+    let done = c .before .before .before .before .before .before .before .before .before .before .before .before .before in
     let a = done .before .before .before .before .before .before .before .before .before .before .before .before .before .before .before .before .before .args in
     let v = done .before .before .before .before .before .before .before .before .loop in
     let now = v .inv .1 others f H in
     let inside = done .before .before .before .before .before .before .before .loop-test .taken in
-    let R = came done _ (c .before .before .step .given .1) others (now .field) (now .holds) in
+    let R = came done _ (c .before .step .given .1) others (now .field) (now .holds) in
     record {
-      says = c .halted .ensures ∙ mesh-halts-says (a .frame .width) (a .threshold) (workOf (a .frame) (meshed (done .before .before .before .before .before .before .before .before .before .before .before .before .before .before .before .before .before))) now inside R;
+      says = mesh-halts-says (a .frame .width) (a .threshold) (workOf (a .frame) (meshed (done .before .before .before .before .before .before .before .before .before .before .before .before .before .before .before .before .before))) now inside R;
       holds = mesh-halts-holds (a .frame .width) (a .threshold) (workOf (a .frame) (meshed (done .before .before .before .before .before .before .before .before .before .before .before .before .before .before .before .before .before))) now inside R;
     }
 
@@ -157,8 +154,7 @@ triangles-spec =
     loop-holds
     triangle-at-requires
     enum-known-step
-    cast-halted
-    halted-requires
+    cast-t29
     same-length
     same-length-2
     same-length-3

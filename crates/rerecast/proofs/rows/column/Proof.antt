@@ -7,7 +7,7 @@ use Rattle.clip.specs.Work.{cellEvents}
 use Rattle.field.proofs.Carrying.{remains-is, remains-of}
 use Rattle.field.proofs.Cells.{part-length}
 use Rattle.rerecast.specs.Rasterize.{Judged}
-use Rattle.rerecast.specs.declared.rows.Part.{Part}
+use Rattle.rerecast.specs.declared.turns.Part.{Part}
 use Rattle.rerecast.proofs.rows.column.Statement.{statement}
 use Rattle.rerecast.proofs.rows.column.Tie as tie
 

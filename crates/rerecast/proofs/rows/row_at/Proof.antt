@@ -10,7 +10,7 @@ use Rattle.clip.specs.Work.{rowEvents}
 use Rattle.clip.proofs.Cuts.{length-polygon}
 use Rattle.field.proofs.Carrying.{remains-is, remains-of}
 use Rattle.rerecast.specs.Rasterize.{Judged}
-use Rattle.rerecast.specs.declared.rows.Part.{Part}
+use Rattle.rerecast.specs.declared.turns.Part.{Part}
 use Rattle.rerecast.proofs.rows.row_at.Statement.{statement}
 use Rattle.rerecast.proofs.rows.row_at.Tie as tie
 
