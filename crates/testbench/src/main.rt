@@ -8,6 +8,7 @@ mod mesh;
 mod meshcalls;
 mod numbers;
 mod packing;
+mod parse;
 mod pokes;
 mod reader;
 mod settings;
@@ -231,9 +232,9 @@ fn lend(
 fn command_of(s: State, line: &[u8]) -> Command {
     if s.ready {
         if s.too_long {
-            return commands::too_long();
+            return parse::too_long();
         }
-        return commands::read(line);
+        return parse::read(line);
     }
     commands::plain(commands::NOTHING, 0, 0, 0)
 }

@@ -1,8 +1,10 @@
 // The calls on the mesh. The slices come cut to what is lent.
+use crate::answers::answer;
 use crate::commands;
 use crate::commands::Command;
 use crate::state::State;
-use crate::writer::say;
+use crate::store::short;
+use crate::store::with_free;
 
 pub fn rasterize(
     s: State,
@@ -22,8 +24,24 @@ pub fn rasterize(
     if c.code != commands::RASTERIZE {
         return s;
     }
-    say(out, at, b"rasterize: is not there yet\n");
-    s
+    let grid = s.grid;
+    let mut free = s.free;
+    let reply = rerecast::rasterize::rasterize_triangles(
+        grid,
+        heads,
+        &mut free,
+        floors,
+        ceilings,
+        areas,
+        nexts,
+        marks,
+        vertices,
+        indices,
+        shades,
+        short(c.a),
+    );
+    answer(out, at, s.terse, commands::RASTERIZE, reply);
+    with_free(s, free)
 }
 
 pub fn populate(
@@ -44,6 +62,23 @@ pub fn populate(
     if c.code != commands::POPULATE {
         return s;
     }
-    say(out, at, b"populate: is not there yet\n");
-    s
+    let grid = s.grid;
+    let mut free = s.free;
+    let reply = rerecast::heightfield::populate_from_trimesh(
+        grid,
+        heads,
+        &mut free,
+        floors,
+        ceilings,
+        areas,
+        nexts,
+        marks,
+        vertices,
+        indices,
+        shades,
+        short(c.a),
+        short(c.b),
+    );
+    answer(out, at, s.terse, commands::POPULATE, reply);
+    with_free(s, free)
 }

@@ -15,7 +15,7 @@ pub fn byte(n: u32) -> u8 {
     if n < 256 { n as u8 } else { 255 }
 }
 
-fn with_free(s: State, free: u32) -> State {
+pub fn with_free(s: State, free: u32) -> State {
     let mut t = s;
     t.free = free;
     t
