@@ -28,7 +28,7 @@ CellAtSays g indices counts x z =
 
 -- ---- a neighbour
 
--- where a step leads: directions 0 to 3 are (-1,0), (0,1), (1,0), (0,-1) in (x,z)
+-- where a step leads: in direction 0 x falls by one, in 1 z rises, in 2 x rises, in 3 z falls
 abbrev pub stepX : ℕ → ℕ → ℕ
 stepX zero x = x - 1
 stepX (suc zero) x = x

@@ -48,7 +48,7 @@ pub record CanStep (tall climb : ℕ) {c c′ : List Span} {l l′ : ℕ} (a : F
 
 -- ---- directions
 
--- one step from x, z leads to x′, z′: directions 0 to 3 are (-1,0), (0,1), (1,0), (0,-1) in (x,z)
+-- One step from x, z leads to x′, z′. In direction 0 x falls by one, in 1 z rises, in 2 x rises, in 3 z falls.
 abbrev pub Step : ℕ → ℕ → ℕ → ℕ → ℕ → Type 0
 Step zero x z x′ z′ = (x′ + 1 ≡ x) × (z′ ≡ z)
 Step (suc zero) x z x′ z′ = (x′ ≡ x) × (z′ ≡ z + 1)
