@@ -10,17 +10,15 @@ use crate::writer::say;
 use grid::Corner;
 use grid::Grid;
 
-// The first command decides how the answers are written.
+// A case, or the word `terse`, ends the replies in words: from there on the answers are those of the recorded cases.
 pub fn begin(s: State, code: u32) -> State {
-    if s.begun {
-        return s;
-    }
-    if code == commands::NOTHING {
-        return s;
-    }
     let mut t = s;
-    t.begun = true;
-    t.terse = code == commands::CASE || code == commands::TERSE;
+    if code == commands::CASE {
+        t.terse = true;
+    }
+    if code == commands::TERSE {
+        t.terse = true;
+    }
     t
 }
 

@@ -6,8 +6,6 @@ use grid::GridReply;
 pub struct State {
     // whether only the bare answers are written
     pub terse: bool,
-    // whether a command was read already
-    pub begun: bool,
     // how many lines were read
     pub line: u64,
     // the bytes of the input that wait, from and to
@@ -66,7 +64,6 @@ fn no_grid() -> Grid {
 pub fn start() -> State {
     State {
         terse: false,
-        begun: false,
         line: 0,
         from: 0,
         to: 0,
