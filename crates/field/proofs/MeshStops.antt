@@ -1,5 +1,4 @@
--- The letter's third demand for a mesh: where it stops for want of a slot, the span that it offers next shares no height with its column, and the stretches
--- of all columns fill the store.
+-- The letter's third demand for a mesh: it stops for want of a slot only at a span that finds no room, being apart from its column while no slot is left.
 use mathlib.Core.Path.{_≡_, refl, sym, ap, subst, _∙_}
 use mathlib.Core.Logic.{_≢_, inl, inr}
 use mathlib.Core.Bool.{false}
