@@ -19,7 +19,7 @@ use Rattle.field.specs.Open.{Open, space, opens}
 use Rattle.field.specs.Links.{passes}
 use Rattle.field.specs.Linked.{walkables, Floor, standsAt, roomTo, CanStep, Step}
 use Rattle.field.proofs.Basics.{by-test, true-false}
-use Rattle.field.proofs.ReadingBack.{nowhere}
+use Rattle.field.proofs.Opening.{nowhere}
 
 -- ---- floors are open spaces
 

@@ -14,7 +14,7 @@ use Rattle.field.specs.Links.{forEach}
 use Rattle.field.specs.Rowing.{shownAt, shown, bare, Cell, Shown}
 use Rattle.field.proofs.Basics.{by-test}
 use Rattle.field.proofs.Lists.{flatten-next, sets-append}
-use Rattle.field.proofs.ReadingBack.{nowhere}
+use Rattle.field.proofs.Opening.{nowhere}
 
 -- ---- what the rows show stays while heights do
 
@@ -41,6 +41,7 @@ shown-kept {cs} {ix} {sz} {ys} {ws} {ws₀} S h l =
             in-ys = c .in-ys;
             in-words = rw l (c .in-words);
           };
+      climbs = S .climbs;
     }
 
 shown-entry : (ys ws : List ℕ) (k n l : ℕ) → l < n → getD (shown ys ws k n) l nowhere ≡ shownAt ys ws (k + l)

@@ -1,18 +1,19 @@
 -- Looking through the layers of a cell, as the rows show them, from the lowest up.
 use mathlib.Core.Path.{_≡_, refl, sym, ap, ap₂, _∙_}
-use mathlib.Core.Logic.{_≢_}
 use mathlib.Core.Bool.{Bool, true, false, cond}
 use mathlib.Core.List.{List, [], _∷_, map}
 use Prim.Native.Nat.{ℕ, zero, suc, _+_, _-_, _<_, _≤_, min}
 use native.Mathlib.Omega.{arith}
 use native.Mathlib.Nat.{not-suc-le-zero, le-of-suc-le-suc}
 use native.Mathlib.Numerals.{add-one}
-use borrow.Author.Tests.{eq-eqb, ne-eqb}
+use borrow.Author.Tests.{ne-eqb, ltb-true, ltb-false}
 use lib.ListN.{length, take, drop, drop-of-length-le}
+use lib.Dec.{ltb}
 use Rattle.compact_span.specs.Word.{emptyMark}
 use Rattle.field.specs.Open.{Open}
 use Rattle.field.specs.Links.{passes, lowest, largest, link, missed}
 use Rattle.field.specs.Rowing.{shownAt, shown, bare}
+use Rattle.field.proofs.Basics.{by-test}
 
 -- ---- the layers from `l` on, of `n` from place `k` on
 
@@ -78,23 +79,70 @@ module _ (ys ws : List ℕ) where
       pub largest-end : (best : ℕ) → n ≤ l → largest pass best l (rest k n l) ≡ best
       largest-end best h = rw (rest-end l h)
 
-  -- ---- both searches give what a cell's link and missed layer are
+  -- ---- layers that do not pass
+
+  module _ (k : ℕ) (pass : Open → Bool) where
+    -- none of the layers from `a` up to `b` passes
+    abbrev pub NonePasses : ℕ → ℕ → Type 0
+    NonePasses a b = (j : ℕ) → a ≤ j → j < b → pass (shownAt ys ws (k + j)) ≡ false
+
+    pub lowest-skip : (n l : ℕ) → l ≤ n → NonePasses 0 l → lowest pass l (rest k n l) ≡ lowest pass 0 (shown ys ws k n)
+    lowest-skip n zero h none = ap (lowest pass 0) (rest-start k n)
+    lowest-skip n (suc l) h none =
+        rw (← add-one l) (sym (lowest-miss k n pass l h (none l (omega arith) (omega arith))))
+        ∙ lowest-skip n l (omega arith) (λ j a b. none j a (omega arith))
+
+    pub largest-skip : (best n m d : ℕ) → m + d ≤ n → NonePasses m (m + d) → largest pass best (m + d) (rest k n (m + d)) ≡ largest pass best m (rest k n m)
+    largest-skip best n m zero h none =
+        let e : m + 0 ≡ m = omega arith in
+        ap (λ (l : ℕ). largest pass best l (rest k n l)) e
+    largest-skip best n m (suc d) h none =
+        let e : m + suc d ≡ m + d + 1 = omega arith in
+        ap (λ (l : ℕ). largest pass best l (rest k n l)) e
+        ∙ sym (rw (none (m + d) (omega arith) (omega arith)) at (largest-next k n pass (m + d) best (omega arith)))
+        ∙ largest-skip best n m d (omega arith) (λ j a b. none j a (omega arith))
+
+    -- up to the end
+    pub largest-none : (best n m : ℕ) → m ≤ n → NonePasses m n → largest pass best m (rest k n m) ≡ best
+    largest-none best n m h none =
+        let e : m + (n - m) ≡ n = omega arith in
+        sym (largest-skip best n m (n - m) (omega arith) (λ j a b. none j a (omega arith)))
+        ∙ ap (λ (l : ℕ). largest pass best l (rest k n l)) e
+        ∙ largest-end k n pass n best (omega arith)
+
+  -- ---- what that makes of a cell's link and missed layer
 
   module _ (k n : ℕ) (pass : Open → Bool) where
-    pub link-shown : {v : ℕ} → v ≡ lowest pass 0 (shown ys ws k (min 62 n)) → v ≡ link pass (shown ys ws k n)
-    link-shown e = e ∙ ap (lowest pass 0) (shown-take k 62 n)
+    link-shown : lowest pass 0 (shown ys ws k (min 62 n)) ≡ link pass (shown ys ws k n)
+    link-shown = ap (lowest pass 0) (shown-take k 62 n)
 
-    pub missed-linked : {v : ℕ} → v ≡ link pass (shown ys ws k n) → v ≢ emptyMark → 0 ≡ missed pass (shown ys ws k n)
-    missed-linked {v} e m = rw (← e, ne-eqb v emptyMark m)
+    -- the first layer that passes is the link, if one may go to it
+    pub link-first : (l : ℕ) → l < n → l < 62 → NonePasses k pass 0 l → pass (shownAt ys ws (k + l)) ≡ true → l ≡ link pass (shown ys ws k n)
+    link-first l h few none e =
+        sym (lowest-hit k (min 62 n) pass l (omega arith) e) ∙ lowest-skip k pass (min 62 n) l (omega arith) none ∙ link-shown
 
-    pub missed-short : {v : ℕ} → v ≡ link pass (shown ys ws k n) → v ≡ emptyMark → n < 63 → 0 ≡ missed pass (shown ys ws k n)
-    missed-short {v} e m h =
-        rw (← e, eq-eqb v emptyMark m, drop-of-length-le (shown ys ws k n) {i = 63} (omega (arith, shown-length k n)))
+    pub link-none : NonePasses k pass 0 (min 62 n) → emptyMark ≡ link pass (shown ys ws k n)
+    link-none none =
+        sym (lowest-end k (min 62 n) pass (min 62 n) (omega arith)) ∙ lowest-skip k pass (min 62 n) (min 62 n) (omega arith) none ∙ link-shown
 
-    pub missed-shown : {v o : ℕ} → v ≡ link pass (shown ys ws k n) → v ≡ emptyMark → 63 ≤ n → o ≡ largest pass 0 63 (shown ys ws (k + 63) (n - 63)) → o ≡ missed pass (shown ys ws k n)
-    missed-shown {v} {o} e m h eo =
+    pub missed-linked : {v : ℕ} → v ≡ link pass (shown ys ws k n) → v < 62 → 0 ≡ missed pass (shown ys ws k n)
+    missed-linked {v} e m = rw (← e, ne-eqb v emptyMark (λ q. omega arith))
+
+    pub missed-shown : {o : ℕ} → emptyMark ≡ link pass (shown ys ws k n) → 63 ≤ n → o ≡ largest pass 0 63 (shown ys ws (k + 63) (n - 63)) → o ≡ missed pass (shown ys ws k n)
+    missed-shown {o} e h eo =
         let f : o ≡ largest pass 0 63 (drop 63 (shown ys ws k n)) = eo ∙ ap (largest pass 0 63) (shown-drop k 63 n h) in
-        rw (← e, eq-eqb v emptyMark m, f)
+        rw (← e, f)
+
+    missed-short : emptyMark ≡ link pass (shown ys ws k n) → n < 63 → 0 ≡ missed pass (shown ys ws k n)
+    missed-short e h = rw (← e, drop-of-length-le (shown ys ws k n) {i = 63} (omega (arith, shown-length k n)))
+
+    pub missed-none : NonePasses k pass 0 n → 0 ≡ missed pass (shown ys ws k n)
+    missed-none none =
+        let e = link-none (λ j a b. none j a (omega arith)) in
+        by-test (ltb n 63) (λ t. missed-short e (ltb-true n 63 t))
+        (λ t.
+        let h : 63 ≤ n = ltb-false n 63 t in
+        missed-shown e h (sym (largest-none k pass 0 n 63 h (λ j a b. none j (omega arith) b))))
 
 -- ---- the tests look at no area
 

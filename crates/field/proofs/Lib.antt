@@ -45,6 +45,7 @@ pub mod Opening
 pub mod Tallying
 pub mod Laying
 pub mod Filling
+pub mod Climbing
 pub mod ReadingBack
 pub mod Layers
 pub mod Joining

@@ -18,7 +18,7 @@ use Rattle.field.specs.Linked.{Floor, CanStep, Step, linkFrom, Stored, L
 use Rattle.field.proofs.Basics.{only}
 use Rattle.field.proofs.Growing.{cell-below}
 use Rattle.field.proofs.Beside.{beside-at}
-use Rattle.field.proofs.ReadingBack.{nowhere}
+use Rattle.field.proofs.Opening.{nowhere}
 use Rattle.field.proofs.Floors.{openOf, floor-open, open-floor, can-passes, passes-can, none-so-tall, step-beside, step-direction, beside-step}
 use Rattle.field.proofs.Reading.{link-found, link-least, count-read, y-read, area-read, height-read, link-read}
 

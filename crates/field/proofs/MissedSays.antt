@@ -25,8 +25,8 @@ use Rattle.field.specs.Linked.{Completed, Missed}
 use Rattle.field.proofs.Basics.{by-test}
 use Rattle.field.proofs.Lists.{greatest-over, greatest-at}
 use Rattle.field.proofs.Beside.{place, beside-at}
-use Rattle.field.proofs.Opening.{earlier, cell-at}
-use Rattle.field.proofs.ReadingBack.{nowhere, cell-inside}
+use Rattle.field.proofs.Opening.{earlier, cell-at, nowhere}
+use Rattle.field.proofs.ReadingBack.{cell-inside}
 use Rattle.field.proofs.Sides.{forEach-length}
 use Rattle.field.proofs.Floors.{openOf, floor-open, open-floor, can-passes, passes-can, step-beside, step-direction, beside-step}
 use Rattle.field.proofs.Reading.{mapped, forEach-at}

@@ -16,7 +16,7 @@ use Rattle.field.specs.Open.{Open}
 use Rattle.field.specs.Links.{largest, link, missed, forEach}
 use Rattle.field.proofs.Basics.{by-test, by-dec}
 use Rattle.field.proofs.Lists.{flatten-cons}
-use Rattle.field.proofs.ReadingBack.{nowhere}
+use Rattle.field.proofs.Opening.{nowhere}
 
 module _ (pass : Open → Bool) where
   abbrev at : List Open → ℕ → Open

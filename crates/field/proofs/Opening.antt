@@ -10,11 +10,17 @@ use lib.ListN.{length, getD, take, drop, length-map, List·getD-map}
 use lib.Seq.{drop-cons, drop-length}
 use lib.Dec.{eqb}
 use Rattle.field.specs.declared.Span.{Span}
+use Rattle.field.specs.Spans.{range, Ascends}
 use Rattle.field.specs.Slots.{Slots, spanAt}
 use Rattle.field.specs.Field.{Field, columnAt, Holds}
-use Rattle.field.specs.Open.{openAbove, opens, columnsOf, cells, indexOf, indices}
+use Rattle.field.specs.Open.{Open, space, openAbove, opens, columnsOf, cells, indexOf, indices}
 use Rattle.field.proofs.Basics.{by-test}
+use Rattle.field.proofs.Contents.{ranges-spans}
 use Rattle.field.proofs.Lists.{flatten-cons}
+
+-- no open space: what stands where there is none
+abbrev pub nowhere : Open
+nowhere = space 0 0 0
 
 -- a walkable span has one open space, and any other none
 pub above-length : (s : Span) (top : ℕ) → length (openAbove s top) ≡ cond (eqb (s .area) 0) 0 1
@@ -71,6 +77,10 @@ module _ {heads : List ℕ} {t : Slots} {f : Field} (H : Holds heads t f) where
 
   pub cell-spans : (i : ℕ) → getD (cells (columnsOf f)) i [] ≡ opens (map (spanAt (t .contents)) (columnAt f i))
   cell-spans i = cell-at (columnsOf f) i ∙ ap opens (column-spans i)
+
+  -- and it ascends
+  pub column-ascends : (i : ℕ) → i < length heads → Ascends 0 (map range (getD (columnsOf f) i []))
+  column-ascends i l = rw (List·getD-map (map (spanAt (f .contents))) (f .columns) i [], ranges-spans (f .contents) (columnAt f i)) (H .ascends i l)
 
   pub columns-cons : (i : ℕ) → i < length heads → drop i (columnsOf f) ≡ getD (columnsOf f) i [] ∷ drop (suc i) (columnsOf f)
   columns-cons i l = drop-cons (columnsOf f) i [] (omega (arith, columns-wide))

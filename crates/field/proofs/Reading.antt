@@ -20,8 +20,8 @@ use Rattle.field.specs.Compact.{Result, Room, complete}
 use Rattle.field.specs.Linked.{rowOf, linkFrom}
 use Rattle.field.proofs.Basics.{by-test}
 use Rattle.field.proofs.Lists.{flatten-cons}
-use Rattle.field.proofs.Opening.{earlier, cell-at, index-at, indices-length}
-use Rattle.field.proofs.ReadingBack.{nowhere, cell-inside, row-at, start-at}
+use Rattle.field.proofs.Opening.{earlier, cell-at, index-at, indices-length, nowhere}
+use Rattle.field.proofs.ReadingBack.{cell-inside, row-at, start-at}
 use Rattle.field.proofs.Sides.{links-small, word-height, forEach-length}
 
 -- ---- the lowest layer that passes

@@ -11,13 +11,11 @@ use Rattle.compact_span.proofs.Base64.{Digits, height-of-word}
 use Rattle.field.specs.declared.Span.{Span}
 use Rattle.field.specs.Open.{Open, space, opens, cells, indices}
 use Rattle.field.specs.Compact.{Rows, Result, Room}
-use Rattle.field.specs.Rowing.{bareWord, Filled, shownAt, shown, bare, Cell, Shown}
+use Rattle.field.specs.Spans.{range, Ascends}
+use Rattle.field.specs.Rowing.{bareWord, Filled, shownAt, shown, bare, Cell, Climbs, Shown}
+use Rattle.field.proofs.Climbing.{opens-climb}
 use Rattle.field.proofs.Lists.{flatten-next, flatten-split, flatten-at, sets-at}
-use Rattle.field.proofs.Opening.{earlier, cell-at, index-at, index-under, indices-length}
-
--- no open space: what stands where there is none
-abbrev pub nowhere : Open
-nowhere = space 0 0 0
+use Rattle.field.proofs.Opening.{nowhere, earlier, cell-at, index-at, index-under, indices-length}
 
 no-links-small : Digits noLinks
 no-links-small zero = omega arith
@@ -111,11 +109,20 @@ module _ {columns : List (List Span)} {t₀ t : Result} (F : Filled columns t₀
           in-words = omega (arith, index-low, r .words, ap length words-are, length-sets (t₀ .rows .words) 0 (map bareWord (flatten (cells columns))));
         }
 
-  pub shown-of : length (cells columns) ≤ 1048576 → Shown (cells columns) (t .indices) (t .counts) (t .rows .ys) (t .rows .words)
-  shown-of few =
+    -- a column that ascends climbs
+    climbs-of : Ascends 0 (map range (getD columns i [])) → Climbs (t .rows .ys) (getD (t .indices) i 0) (getD (t .counts) i 0)
+    climbs-of up j k h inside =
+        let m : k < length (getD (cells columns) i []) = omega (arith, stored-count i p) in
+        let y : (l : ℕ) → l < length (getD (cells columns) i []) → getD (t .rows .ys) (getD (t .indices) i 0 + l) 0 ≡ getD (opens (getD columns i [])) l nowhere .y =
+        λ l q. ap (λ (o : Open). o .y) (shows l q) ∙ ap (λ (os : List Open). getD os l nowhere .y) (cell-at columns i) in
+        omega (arith, y j (omega arith), y k m, opens-climb 0 (getD columns i []) up j k h (omega (arith, ap length (cell-at columns i))))
+
+  pub shown-of : length (cells columns) ≤ 1048576 → ((i : ℕ) → i < length columns → Ascends 0 (map range (getD columns i []))) → Shown (cells columns) (t .indices) (t .counts) (t .rows .ys) (t .rows .words)
+  shown-of few up =
       record {
         indices = rw (F .indices, length-sets (t₀ .indices) 0 (indices 0 columns)) li;
         counts = rw (F .counts, length-sets (t₀ .counts) 0 (map length (cells columns))) ls;
         few = few;
         cell = cell-of;
+        climbs = λ i p. climbs-of i p (up i (in-columns i p));
       }

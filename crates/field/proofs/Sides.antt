@@ -18,7 +18,7 @@ use Rattle.field.specs.Beside.{beside}
 use Rattle.field.specs.Open.{Open, cells}
 use Rattle.field.specs.Links.{passes, lowest, link, missed, around, wordOf, missedOf, forEach, words}
 use Rattle.field.specs.Compact.{Rows, rows, Result, result, complete}
-use Rattle.field.specs.Rowing.{bareWord, Filled, shown, bare, Shown}
+use Rattle.field.specs.Rowing.{bareWord, Filled, shown, bare, Climbs, Shown}
 use Rattle.field.proofs.Basics.{by-test, by-dec}
 use Rattle.field.proofs.Lists.{flatten-cons, sets-over}
 use Rattle.field.proofs.Beside.{place, beside-below}
@@ -31,6 +31,7 @@ pub record Beside (cs : List (List Open)) (ys ws : List ℕ) (k first count : �
   pub in-ys : first + count ≤ length ys
   pub in-words : first + count ≤ length ws
   pub here : shown ys ws first count ≡ map bare (getD cs k [])
+  pub climbs : Climbs ys first count
 
 -- so they do for the cell beside, and for none off the grid
 pub beside-shown : {cs : List (List Open)} {ix sz ys ws : List ℕ} → Shown cs ix sz ys ws → {k first count : ℕ} → first ≡ cond (eqb k none) 0 (getD ix k 0) → count ≡ cond (eqb k none) 0 (getD sz k 0) → (k ≢ none → k < length cs) → Beside cs ys ws k first count
@@ -43,6 +44,7 @@ beside-shown {cs} {ix} {sz} {ys} {ws} S {k} {first} {count} ef ec inside =
       in-ys = omega arith;
       in-words = omega arith;
       here = ap₂ (shown ys ws) a b ∙ rw (e, List·getD-eq-default cs [] {n = none} (omega (arith, S .few)));
+      climbs = λ i j p q. absurd (omega arith);
     })
     (λ n.
     let a : first ≡ getD ix k 0 = ef ∙ rw (ne-eqb k none n) in
@@ -52,6 +54,7 @@ beside-shown {cs} {ix} {sz} {ys} {ws} S {k} {first} {count} ef ec inside =
       in-ys = omega (arith, c .in-ys);
       in-words = omega (arith, c .in-words);
       here = ap₂ (shown ys ws) a b ∙ c .here;
+      climbs = rw (a, b) (S .climbs k (inside n));
     })
 
 -- no link leads off the grid: a number in `beside` that is not `none` is a column's

@@ -1,13 +1,16 @@
 -- What the inner functions of `into_compact` promise one another. No public contract cites this file.
 use mathlib.Core.Path.{_≡_}
+use mathlib.Core.Bool.{Bool, false, _||_}
 use mathlib.Core.List.{List, [], _∷_, map, flatten}
-use Prim.Native.Nat.{ℕ, zero, suc, _+_, _<_, _≤_}
+use Prim.Native.Nat.{ℕ, zero, suc, _+_, _<_, _≤_, max}
 use lib.ListN.{length, getD, set, take}
 use lib.Seq.{sets}
+use lib.Dec.{ltb}
 use Rattle.compact_span.specs.Word.{word, heightOf, noLinks}
 use Rattle.field.specs.declared.Span.{Span}
 use Rattle.field.specs.Slots.{Contents, spanAt}
 use Rattle.field.specs.Open.{Open, space, opens, cells, indices}
+use Rattle.field.specs.Links.{topOf, passes}
 use Rattle.field.specs.Compact.{Rows, rows, Result, Room}
 
 -- ---- the open spaces stored
@@ -65,9 +68,28 @@ pub record Cell (cs : List (List Open)) (ix sz ys ws : List ℕ) (i : ℕ) : Typ
   pub in-ys : getD ix i 0 + getD sz i 0 ≤ length ys
   pub in-words : getD ix i 0 + getD sz i 0 ≤ length ws
 
--- all cells are there
+-- of `n` open spaces from place `k` on, each starts no lower than those before it
+abbrev pub Climbs : List ℕ → ℕ → ℕ → Type 0
+Climbs ys k n = (i j : ℕ) → i ≤ j → j < n → getD ys (k + i) 0 ≤ getD ys (k + j) 0
+
+-- all cells are there, and climb
 pub record Shown (cs : List (List Open)) (ix sz ys ws : List ℕ) : Type 0 where
   pub indices : length cs ≤ length ix
   pub counts : length cs ≤ length sz
   pub few : length cs ≤ 1048576
   pub cell : (i : ℕ) → i < length cs → Cell cs ix sz ys ws i
+  pub climbs : (i : ℕ) → i < length cs → Climbs ys (getD ix i 0) (getD sz i 0)
+
+-- ---- and looked through from the lowest up, for the links
+
+-- Whoever stands in `o` passes to no open space that starts at `y` or above: there is not enough room left, or the step is too high.
+abbrev pub past : ℕ → ℕ → Open → ℕ → Bool
+past tall climb o y = ltb (topOf o) (max (o .y) y + tall) || ltb (o .y + climb) y
+
+-- Whoever stands at `y` or above does not pass to `n`. So once a column has been climbed to there, `n` need not be looked at again.
+abbrev pub Behind : ℕ → ℕ → ℕ → Open → Type 0
+Behind tall climb y n = (o : Open) → y ≤ o .y → passes tall climb o n ≡ false
+
+-- the lowest `l` of those from place `k` on are so
+abbrev pub AllBehind : ℕ → ℕ → ℕ → List ℕ → List ℕ → ℕ → ℕ → Type 0
+AllBehind tall climb y ys ws k l = (j : ℕ) → j < l → Behind tall climb y (shownAt ys ws (k + j))

@@ -45,12 +45,22 @@ struct Around {
 struct Found {
     layer: u8,
     missed: u8,
+    from: u8,
+}
+
+// By direction, the layer up to which all layers of the cell beside are out of reach for the rest of the column.
+struct Cursors {
+    from0: u8,
+    from1: u8,
+    from2: u8,
+    from3: u8,
 }
 
 // An open space's word, and the largest layer that its links miss.
 struct Bound {
     word: u32,
     missed: u8,
+    cursors: Cursors,
 }
 
 fn wide_height(x: u8) -> u32
@@ -89,20 +99,47 @@ fn can_pass(q: Post, y: u16, height: u8) -> bool
     within(q.y, y, q.climb)
 }
 
-// The lowest of `n` layers from place `first` on that an agent passes to, or the empty mark.
-fn lowest_layer(ys: &[u16], data: &[u32], first: usize, n: u8, q: Post) -> u8
-    requires { ⌜ (n ≤ 62) × (first + n ≤ length (now ys)) × (first + n ≤ length (now «data»)) ⌝ }
-    ensures { λ r. ⌜ r ≡ lowest (passes (q .tall) (q .climb) (space (q .y) (q .height) 0)) 0 (shown (now (ys .entry)) (now («data» .entry)) first n) ⌝ }
+// Whether an agent passes to no open space beside that starts at `y` or above.
+fn is_past(q: Post, y: u16) -> bool
+    ensures { λ r. ⌜ (r ≡ true → (n : Open) → y ≤ n .y → passes (q .tall) (q .climb) (space (q .y) (q .height) 0) n ≡ false) × (r ≡ false → Near (q .tall) (q .climb) (q .y) (q .height) y) ⌝ }
 {
-    let mut l: u8 = 0;
+    let bottom = wide(greater(q.y, y)) + wide(q.tall);
+    if wide(q.y) + wide_height(q.height) < bottom {
+        return true;
+    }
+    !within(y, q.y, q.climb)
+}
+
+// How far a look through the layers of a cell went: to layer `at`, which an agent passes to, or beyond which it passes to none.
+struct Look {
+    at: u8,
+    passes: bool,
+}
+
+// Looks through `n` layers from place `first` on, from layer `from` up.
+fn look_up(ys: &[u16], data: &[u32], first: usize, n: u8, from: u8, q: Post) -> Look {
+    let mut l = from;
     while l < n {
         let k = first + l as usize;
-        if can_pass(q, ys[k], CompactSpan::height_in(data[k])) {
-            return l;
+        let y = ys[k];
+        if is_past(q, y) {
+            return Look {
+                at: l,
+                passes: false,
+            };
+        }
+        if can_pass(q, y, CompactSpan::height_in(data[k])) {
+            return Look {
+                at: l,
+                passes: true,
+            };
         }
         l += 1;
     }
-    CompactSpan::NOT_CONNECTED
+    Look {
+        at: l,
+        passes: false,
+    }
 }
 
 // `l` where an agent passes to it, and else the best so far.
@@ -112,61 +149,72 @@ fn better(pass: bool, l: u8, best: u8) -> u8
     if pass { l } else { best }
 }
 
-// The largest of the layers from 63 up to `n` that an agent passes to, or 0.
-fn largest_layer(ys: &[u16], data: &[u32], first: usize, n: u8, q: Post) -> u8
-    requires { ⌜ (63 ≤ n) × (first + n ≤ length (now ys)) × (first + n ≤ length (now «data»)) ⌝ }
-    ensures { λ r. ⌜ r ≡ largest (passes (q .tall) (q .climb) (space (q .y) (q .height) 0)) 0 63 (shown (now (ys .entry)) (now («data» .entry)) (first + 63) (n - 63)) ⌝ }
-{
-    let mut l: u8 = 63;
+// The largest of the layers from 63 up to `n` that an agent passes to, or 0. None below `from` is one.
+fn largest_layer(ys: &[u16], data: &[u32], first: usize, n: u8, from: u8, q: Post) -> u8 {
+    let mut l: u8 = greater_layer(63, from);
     let mut best: u8 = 0;
     while l < n {
         let k = first + l as usize;
-        best = better(can_pass(q, ys[k], CompactSpan::height_in(data[k])), l, best);
+        let y = ys[k];
+        if is_past(q, y) {
+            return best;
+        }
+        best = better(can_pass(q, y, CompactSpan::height_in(data[k])), l, best);
         l += 1;
     }
     best
 }
 
-// How many of `n` layers a link may go to.
-fn linkable(n: u8) -> u8
-    ensures { λ r. ⌜ r ≡ min 62 n ⌝ }
-{
-    if n < 62 { n } else { 62 }
-}
-
-// The link of an open space to a cell beside.
-fn link_to(ys: &[u16], data: &[u32], side: Side, q: Post) -> Found
-    requires { ⌜ (side .first + side .count ≤ length (now ys)) × (side .first + side .count ≤ length (now «data»)) ⌝ }
-    ensures { λ r. ⌜ (r .layer ≡ link (passes (q .tall) (q .climb) (space (q .y) (q .height) 0)) (shown (now (ys .entry)) (now («data» .entry)) (side .first) (side .count))) × (r .missed ≡ missed (passes (q .tall) (q .climb) (space (q .y) (q .height) 0)) (shown (now (ys .entry)) (now («data» .entry)) (side .first) (side .count))) ⌝ }
-{
+// The link of an open space to a cell beside. The layers below `from` are out of reach.
+fn link_to(ys: &[u16], data: &[u32], side: Side, from: u8, q: Post) -> Found {
     let first = side.first;
     let n = side.count;
-    let layer = lowest_layer(ys, data, first, linkable(n), q);
-    if layer != CompactSpan::NOT_CONNECTED {
-        return Found { layer, missed: 0 };
+    let look = look_up(ys, data, first, n, from, q);
+    let from = look.at;
+    if !look.passes {
+        return Found {
+            layer: CompactSpan::NOT_CONNECTED,
+            missed: 0,
+            from,
+        };
     }
-    if n < 63 {
-        return Found { layer, missed: 0 };
+    if from < 62 {
+        return Found {
+            layer: from,
+            missed: 0,
+            from,
+        };
     }
-    let missed = largest_layer(ys, data, first, n, q);
-    Found { layer, missed }
+    let missed = largest_layer(ys, data, first, n, from, q);
+    Found {
+        layer: CompactSpan::NOT_CONNECTED,
+        missed,
+        from,
+    }
 }
 
 // The word of an open space with its links to the cells beside.
-fn bind(ys: &[u16], data: &[u32], r: Around, q: Post) -> Bound
-    requires { ⌜ Within (now ys) (now «data») (sidesOf r) ⌝ }
-    ensures { λ b. ⌜ (b .word ≡ wordOf (passes (q .tall) (q .climb)) (layersOf (now (ys .entry)) (now («data» .entry)) (sidesOf r)) (space (q .y) (q .height) 0)) × (b .missed ≡ missedOf (passes (q .tall) (q .climb)) (layersOf (now (ys .entry)) (now («data» .entry)) (sidesOf r)) (space (q .y) (q .height) 0)) ⌝ }
-{
-    let a = link_to(ys, data, r.side0, q);
-    let b = link_to(ys, data, r.side1, q);
-    let c = link_to(ys, data, r.side2, q);
-    let d = link_to(ys, data, r.side3, q);
+fn bind(ys: &[u16], data: &[u32], r: Around, t: Cursors, q: Post) -> Bound {
+    let a = link_to(ys, data, r.side0, t.from0, q);
+    let b = link_to(ys, data, r.side1, t.from1, q);
+    let c = link_to(ys, data, r.side2, t.from2, q);
+    let d = link_to(ys, data, r.side3, t.from3, q);
     let word = CompactSpan::with_links(q.height, a.layer, b.layer, c.layer, d.layer);
     let missed = greater_layer(
         greater_layer(greater_layer(a.missed, b.missed), c.missed),
         d.missed,
     );
-    Bound { word, missed }
+    let cursors = Cursors {
+        from0: a.from,
+        from1: b.from,
+        from2: c.from,
+        from3: d.from,
+    };
+    Bound {
+        word,
+        missed,
+        cursors,
+    }
 }
 
 // A column's number.
@@ -267,6 +315,12 @@ fn link_spans(
     let n = cell_counts[column];
     let mut l: u8 = 0;
     let mut most = missed;
+    let mut cursors = Cursors {
+        from0: 0,
+        from1: 0,
+        from2: 0,
+        from3: 0,
+    };
     while l < n {
         let k = first + l as usize;
         let q = Post {
@@ -275,8 +329,9 @@ fn link_spans(
             tall,
             climb,
         };
-        let b = bind(ys, data, sides, q);
+        let b = bind(ys, data, sides, cursors, q);
         data[k] = b.word;
+        cursors = b.cursors;
         most = greater_layer(most, b.missed);
         l += 1;
     }

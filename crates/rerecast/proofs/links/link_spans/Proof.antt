@@ -9,7 +9,7 @@ use Rattle.compact_span.specs.Word.{heightOf}
 use Rattle.field.specs.Open.{Open}
 use Rattle.field.specs.Links.{passes, around, wordOf, missedOf}
 use Rattle.field.specs.Rowing.{Cell, Shown}
-use Rattle.field.proofs.ReadingBack.{nowhere}
+use Rattle.field.proofs.Opening.{nowhere}
 use Rattle.field.proofs.Joining.{Joining, joining-start, joining-step, joining-end, layer-is, shown-kept}
 use Rattle.field.proofs.Sides.{word-height}
 use Rattle.rerecast.proofs.Around.{sides-within, word-is, missed-is}
