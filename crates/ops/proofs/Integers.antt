@@ -6,9 +6,9 @@ use Prim.Native.Nat.{ℕ, zero, suc, _+_, _-_, _^_, _≤_, _<_}
 use native.Mathlib.Nat.{add-zero, le-antisymm}
 use native.Mathlib.Omega.{arith}
 use lib.Dec.{T, leb, leb→le, le→leb, ltb→lt, leb·suc-suc}
-use lib.IntN.{ℤ, pos, negsuc, negℤ, _-ℤ_}
+use lib.IntN.{ℤ, pos, negsuc, negℤ}
 use lib.Signed.{mag, leZ, ltZ, _≤ℤ_, _<ℤ_, leZ-yes, ltZ-yes, ltZ-no, ≤ℤ-refl, clashℤ}
-use borrow.Author.Tests.{ltb-true, ltb-false, leb-true, le-leb, lt-leb}
+use borrow.Author.Tests.{leb-true, le-leb, lt-leb}
 use Rattle.ops.specs.Round.{lowest, highest}
 
 -- ---- -j
@@ -36,21 +36,6 @@ minus-lt (suc j) k l = omega (arith, ltb→lt k j l)
 pub minus-le : (j k : ℕ) → T (leZ (negℤ (pos j)) (negsuc k)) → suc k ≤ j
 minus-le zero k l = absurd l
 minus-le (suc j) k l = omega (arith, leb→le k j l)
-
-pub minus-one : (j : ℕ) → negℤ (pos j) -ℤ pos 1 ≡ negsuc j
-minus-one zero = refl
-minus-one (suc j) = ap (λ (k : ℕ). negsuc (suc k)) (add-zero j)
-
--- -j above -q or not, for a q above 0
-pub minus-above-yes : (q j : ℕ) → 0 < q → ltZ (negℤ (pos q)) (negℤ (pos j)) ≡ true → j < q
-minus-above-yes zero j p h = absurd (omega arith)
-minus-above-yes (suc q) zero p h = p
-minus-above-yes (suc q) (suc j) p h = omega (arith, ltb-true j q h)
-
-pub minus-above-no : (q j : ℕ) → 0 < q → ltZ (negℤ (pos q)) (negℤ (pos j)) ≡ false → q ≤ j
-minus-above-no zero j p h = absurd (omega arith)
-minus-above-no (suc q) zero p h = absurd (true≢false h)
-minus-above-no (suc q) (suc j) p h = omega (arith, ltb-false j q h)
 
 -- ---- tests and facts
 

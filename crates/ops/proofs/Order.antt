@@ -1,15 +1,13 @@
 -- Two floats, neither of them NaN, are in one order or the other; and a float against a whole number is its fraction's size against that number's.
 use mathlib.Core.Path.{_≡_, refl, sym, ap, _∙_}
 use mathlib.Core.Bool.{Bool, true, false, not, _&&_, _||_, true≢false}
-use Prim.Native.Nat.{ℕ, suc, _+_, _*_, _≤_, _<_, _^_}
+use Prim.Native.Nat.{ℕ, suc, _+_, _*_, _≤_, _<_}
 use native.Mathlib.Nat.{mul-one, zero-mul, mul-right-comm, mul-le-mul-right, mul-lt-mul-of-pos-right, add-mul}
 use native.Mathlib.Omega.{arith}
 use lib.Dec.{ltb, eqb}
 use lib.IntN.{ℤ, pos, negsuc, natAbs}
-use lib.Signed.{mag}
-use lib.Ieee.{Float, nan, inf, fin, Format, prec, up, down, below, level, lt, le, eq, isNan, ofInt}
+use lib.Ieee.{Float, nan, inf, fin, up, down, below, level, lt, le, eq, isNan}
 use lib.Ieee.Exact.{HasValue}
-use lib.Ieee.Back.{round-whole}
 use lib.Ieee.Fits.{down-pos}
 use borrow.Author.Tests.{ltb-true, ltb-false, lt-ltb, le-ltb, eq-eqb, eqb-true, eqb-false}
 use Rattle.ops.specs.Order.{exactly}
@@ -63,9 +61,6 @@ le-total (fin s m e) nan p q = absurd (true≢false q)
 le-total (fin s m e) (inf true) p q = refl
 le-total (fin s m e) (inf false) p q = refl
 le-total (fin s m e) (fin t n d) p q = signed-total s t (m * up e * down d) (n * up d * down e)
-
-pub one-holds : (x y : Float) → isNan x ≡ false → isNan y ≡ false → le x y ≡ false → lt y x ≡ false → ⊥
-one-holds x y p q a b = true≢false (sym (le-total x y p q ∙ ap not b) ∙ a)
 
 -- ---- a float that is ±n, a whole number, against a fraction
 
@@ -122,9 +117,3 @@ module _ (s : Bool) (m : ℕ) (e : ℤ) (z : ℤ) where
   pub le-whole : le (fin s m e) (exactly z) ≡ not (below (isNeg z) (natAbs z * down e) s (m * up e))
   unfolding isNan
   le-whole = le-total (fin s m e) (exactly z) refl (number z) ∙ ap not (whole-lt s m e (exactly z) (isNeg z) (natAbs z) (exactly-value z))
-
--- an integer with h bits beside its sign is a value of a format that keeps h digits
-pub cast-value : (f : Format) (h : ℕ) (z : ℤ) → 2 ^ h ≤ 2 ^ prec f → mag z < 2 ^ h → HasValue (ofInt f z) (isNeg z) (natAbs z) 1
-unfolding ofInt
-cast-value f h (pos n) l b = round-whole f false n (omega arith)
-cast-value f h (negsuc n) l b = round-whole f true (suc n) (omega arith)

@@ -1,145 +1,200 @@
--- Floor and ceil from the truncation: one is taken off where the truncation is above x, or added where it is below, unless that leaves the range.
--- The tests compare x with the truncation cast to a float of a format f that holds every integer of the range.
-use mathlib.Core.Path.{_≡_, refl, sym, ap, _∙_}
-use mathlib.Core.Bool.{Bool, true, false, true≢false}
-use Prim.Native.Nat.{ℕ, zero, suc, _-_, _*_, _/_, _^_, _≤_, _<_, min}
-use native.Mathlib.Nat.{add-zero, zero-mul}
+-- Truncation, floor and ceil by the tests of x against 0, 1 and 2 ^ h. Each is one rounding, `rounded`, that differs only in what it does with a fraction of either sign.
+use mathlib.Core.Path.{_≡_, refl, sym, ap, _∙_, subst}
+use mathlib.Core.Bool.{Bool, true, false, not, true≢false}
+use Prim.Native.Nat.{ℕ, _-_, _*_, _/_, _^_, _≤_, _<_, min}
+use native.Mathlib.Nat.{one-mul, div-eq-of-lt, le-div-iff-mul-le, le-refl, le-trans}
 use native.Mathlib.Omega.{arith}
-use native.Mathlib.Numerals.{add-one}
-use lib.Dec.{ltb}
-use lib.IntN.{ℤ, pos, negℤ, natAbs, _+ℤ_, _-ℤ_}
-use lib.Signed.{mag, ltZ}
-use lib.Pow.{pow-pos}
-use lib.Ieee.{Float, nan, inf, fin, Format, prec, up, down, below, lt, toSigned, ofInt}
-use lib.Ieee.Casts.{toSigned-in}
+use lib.IntN.{ℤ, pos, negsuc, negℤ}
+use lib.Signed.{mag}
+use lib.Pow.{pow-pos, pow-mono}
+use lib.Ieee.{Float, nan, inf, fin, up, down, lt, le, eq, neg, toSigned}
+use lib.Ieee.Positive.{num, den}
 use lib.Ieee.Fits.{down-pos}
-use borrow.Author.Tests.{ltb-true, ltb-false}
-use Rattle.ops.specs.Round.{lowest, highest, held, endOf, away, floorTo, ceilTo}
-use Rattle.ops.proofs.Integers.{minus-one, minus-above-yes, minus-above-no}
-use Rattle.ops.proofs.Fractions.{part, one-more, no-more, at-end, never-below}
-use Rattle.ops.proofs.Order.{lt-whole, whole-lt, isNeg, cast-value}
+use Rattle.ops.specs.Round.{held, endOf, toward, away, floorTo, ceilTo}
+use Rattle.ops.proofs.Fractions.{away-ge, away-le, away-one}
+use Rattle.ops.proofs.Given.{minus-in}
+use Rattle.ops.proofs.Limits.{most, nought, under-most, beyond-most, not-at-least, not-negative, some-below, none-below, not-below, some-above, none-above, not-above}
 
-abbrev minus : ℕ → ℤ
-minus k = negℤ (pos k)
+-- what becomes of a fraction with the sign s
+abbrev pub Way : Type 0
+Way = Bool → ℕ → ℕ → ℕ
 
--- -a / d against -k
-neg-r : (k a d : ℕ) → below true a (isNeg (minus k)) (natAbs (minus k) * d) ≡ ltb (k * d) a
-neg-r zero a d = rw (zero-mul d, add-zero a)
-neg-r (suc k) a d = refl
+abbrev pub rounded : ℕ → Way → Float → ℤ
+rounded h g nan = pos 0
+rounded h g (inf s) = endOf h s
+rounded h g (fin s m e) = held h s (g s (m * up e) (down e))
 
-neg-l : (k a d : ℕ) → ltb a (k * d) ≡ false → below (isNeg (minus k)) (natAbs (minus k) * d) true a ≡ false
-neg-l zero a d h = refl
-neg-l (suc k) a d h = h
+abbrev pub inward : Way
+inward s = toward
 
--- an infinity and NaN
-lt-nan : (y : Float) → lt y nan ≡ false
-unfolding lt
-lt-nan nan = refl
-lt-nan (inf s) = refl
-lt-nan (fin s m e) = refl
+abbrev pub downward : Way
+downward true = away
+downward false = toward
 
-lt-low : (y : Float) → lt y (inf true) ≡ false
-unfolding lt
-lt-low nan = refl
-lt-low (inf true) = refl
-lt-low (inf false) = refl
-lt-low (fin s m e) = refl
+abbrev pub upward : Way
+upward true = toward
+upward false = away
 
-high-lt : (y : Float) → lt (inf false) y ≡ false
-unfolding lt
-high-lt nan = refl
-high-lt (inf s) = refl
-high-lt (fin s m e) = refl
+pub truncation-is : (h : ℕ) (x : Float) → toSigned h x ≡ rounded h inward x
+unfolding toSigned
+truncation-is h nan = refl
+truncation-is h (inf true) = refl
+truncation-is h (inf false) = refl
+truncation-is h (fin true m e) = refl
+truncation-is h (fin false m e) = refl
 
-module _ (f : Format) (h : ℕ) (w : 2 ^ h ≤ 2 ^ prec f) where
-  -- the truncation, cast
-  abbrev cast : Float → Float
-  cast x = ofInt f (toSigned h x)
+pub floor-is : (h : ℕ) (x : Float) → floorTo h x ≡ rounded h downward x
+unfolding floorTo
+floor-is h nan = refl
+floor-is h (inf s) = refl
+floor-is h (fin true m e) = refl
+floor-is h (fin false m e) = refl
 
-  module _ (m : ℕ) (e : ℤ) where
-    lt-neg : lt (fin true m e) (cast (fin true m e)) ≡ ltb (part (m * up e) (down e) (2 ^ h) * down e) (m * up e)
-    unfolding toSigned
-    lt-neg =
-        lt-whole true m e (cast (fin true m e)) _ _ (cast-value f h (toSigned h (fin true m e)) w (toSigned-in h (fin true m e)))
-        ∙ neg-r (part (m * up e) (down e) (2 ^ h)) (m * up e) (down e)
+pub ceil-is : (h : ℕ) (x : Float) → ceilTo h x ≡ rounded h upward x
+unfolding ceilTo
+ceil-is h nan = refl
+ceil-is h (inf s) = refl
+ceil-is h (fin true m e) = refl
+ceil-is h (fin false m e) = refl
 
-    lt-pos : lt (fin false m e) (cast (fin false m e)) ≡ false
-    unfolding toSigned
-    lt-pos =
-        lt-whole false m e (cast (fin false m e)) _ _ (cast-value f h (toSigned h (fin false m e)) w (toSigned-in h (fin false m e)))
-        ∙ never-below (m * up e) (down e) (2 ^ h - 1) (down-pos e)
+-- ---- from 1 on, for y and for its negation
 
-    gt-neg : lt (cast (fin true m e)) (fin true m e) ≡ false
-    unfolding toSigned
-    gt-neg =
-        whole-lt true m e (cast (fin true m e)) _ _ (cast-value f h (toSigned h (fin true m e)) w (toSigned-in h (fin true m e)))
-        ∙ neg-l (part (m * up e) (down e) (2 ^ h)) (m * up e) (down e) (never-below (m * up e) (down e) (2 ^ h) (down-pos e))
+abbrev pub signed : Bool → Float → Float
+signed true y = neg y
+signed false y = y
 
-    gt-pos : lt (cast (fin false m e)) (fin false m e) ≡ ltb (part (m * up e) (down e) (2 ^ h - 1) * down e) (m * up e)
-    unfolding toSigned
-    gt-pos = whole-lt false m e (cast (fin false m e)) _ _ (cast-value f h (toSigned h (fin false m e)) w (toSigned-in h (fin false m e)))
+abbrev pub withSign : Bool → ℕ → ℤ
+withSign true n = negℤ (pos n)
+withSign false n = pos n
 
-  -- ---- floor
+signed-twice : (s : Bool) (x : Float) → signed s (signed s x) ≡ x
+unfolding neg
+signed-twice false x = refl
+signed-twice true nan = refl
+signed-twice true (inf true) = refl
+signed-twice true (inf false) = refl
+signed-twice true (fin true m e) = refl
+signed-twice true (fin false m e) = refl
 
-  pub floor-down : (x : Float) → lt x (cast x) ≡ true → ltZ (lowest h) (toSigned h x) ≡ true → toSigned h x -ℤ pos 1 ≡ floorTo h x
-  unfolding toSigned floorTo lt
-  floor-down nan a b = absurd (true≢false (sym a))
-  floor-down (inf true) a b = absurd (omega (arith, minus-above-yes (2 ^ h) (2 ^ h) (pow-pos h) b))
-  floor-down (inf false) a b = absurd (true≢false (sym a ∙ high-lt (cast (inf false))))
-  floor-down (fin true m e) a b =
-      minus-one _
-      ∙ ap minus (sym (one-more (m * up e) (down e) (2 ^ h) (down-pos e) (sym (lt-neg m e) ∙ a) (minus-above-yes (2 ^ h) _ (pow-pos h) b)))
-  floor-down (fin false m e) a b = absurd (true≢false (sym a ∙ lt-pos m e))
+-- no way leaves less than the whole part
+abbrev Kept : Way → Type 0
+Kept g = (s : Bool) (n d : ℕ) → 0 < d → n / d ≤ g s n d
 
-  pub floor-end : (x : Float) → lt x (cast x) ≡ true → ltZ (lowest h) (toSigned h x) ≡ false → toSigned h x ≡ floorTo h x
-  unfolding toSigned floorTo lt
-  floor-end nan a b = refl
-  floor-end (inf true) a b = refl
-  floor-end (inf false) a b = refl
-  floor-end (fin true m e) a b =
-      ap minus (sym (at-end (m * up e) (down e) (2 ^ h) (down-pos e) (minus-above-no (2 ^ h) _ (pow-pos h) b)))
-  floor-end (fin false m e) a b = refl
+pub inward-kept : Kept inward
+inward-kept s n d p = le-refl (n / d)
 
-  pub floor-same : (x : Float) → lt x (cast x) ≡ false → toSigned h x ≡ floorTo h x
-  unfolding toSigned floorTo
-  floor-same nan a = refl
-  floor-same (inf true) a = refl
-  floor-same (inf false) a = refl
-  floor-same (fin true m e) a = ap minus (sym (no-more (m * up e) (down e) (2 ^ h) (down-pos e) (sym (lt-neg m e) ∙ a)))
-  floor-same (fin false m e) a = refl
+pub downward-kept : Kept downward
+downward-kept true n d p = away-ge n d p
+downward-kept false n d p = le-refl (n / d)
 
-  -- ---- ceil
+pub upward-kept : Kept upward
+upward-kept true n d p = le-refl (n / d)
+upward-kept false n d p = away-ge n d p
 
-  pub ceil-up : (x : Float) → lt (cast x) x ≡ true → ltZ (toSigned h x) (highest h) ≡ true → toSigned h x +ℤ pos 1 ≡ ceilTo h x
-  unfolding toSigned ceilTo
-  ceil-up nan a b = absurd (true≢false (sym a ∙ lt-nan (cast nan)))
-  ceil-up (inf true) a b = absurd (true≢false (sym a ∙ lt-low (cast (inf true))))
-  ceil-up (inf false) a b = absurd (omega (arith, ltb-true (2 ^ h - 1) (2 ^ h - 1) b))
-  ceil-up (fin true m e) a b = absurd (true≢false (sym a ∙ gt-neg m e))
-  ceil-up (fin false m e) a b =
-      ap pos (add-one _ ∙ sym (one-more (m * up e) (down e) (2 ^ h - 1) (down-pos e) (sym (gt-pos m e) ∙ a) (ltb-true _ (2 ^ h - 1) b)))
+module _ (h : ℕ) (g : Way) where
+  held-whole : (s : Bool) (n : ℕ) → n < 2 ^ h → withSign s n ≡ held h s n
+  held-whole true n l = let whole : n ≡ min n (2 ^ h) = omega arith in ap (λ (k : ℕ). negℤ (pos k)) whole
+  held-whole false n l = ap pos (omega arith)
 
-  pub ceil-end : (x : Float) → lt (cast x) x ≡ true → ltZ (toSigned h x) (highest h) ≡ false → toSigned h x ≡ ceilTo h x
-  unfolding toSigned ceilTo
-  ceil-end nan a b = refl
-  ceil-end (inf true) a b = refl
-  ceil-end (inf false) a b = refl
-  ceil-end (fin true m e) a b = refl
-  ceil-end (fin false m e) a b = ap pos (sym (at-end (m * up e) (down e) (2 ^ h - 1) (down-pos e) (ltb-false _ (2 ^ h - 1) b)))
+  held-end : (s : Bool) (n : ℕ) → 2 ^ h ≤ n → endOf h s ≡ held h s n
+  held-end true n l = let cut : 2 ^ h ≡ min n (2 ^ h) = omega arith in ap (λ (k : ℕ). negℤ (pos k)) cut
+  held-end false n l = ap pos (omega arith)
 
-  pub ceil-same : (x : Float) → lt (cast x) x ≡ false → toSigned h x ≡ ceilTo h x
-  unfolding toSigned ceilTo
-  ceil-same nan a = refl
-  ceil-same (inf true) a = refl
-  ceil-same (inf false) a = refl
-  ceil-same (fin true m e) a = refl
-  ceil-same (fin false m e) a = ap pos (sym (no-more (m * up e) (down e) (2 ^ h - 1) (down-pos e) (sym (gt-pos m e) ∙ a)))
+  -- below 2 ^ h the fraction is rounded and no more
+  inside-of : (s : Bool) (y : Float) → le (most 0) y ≡ true → lt y (most h) ≡ true → g s (num y) (den y) < 2 ^ h
+      → withSign s (g s (num y) (den y)) ≡ rounded h g (signed s y)
+  unfolding le lt eq neg
+  inside-of s nan a b l = absurd (true≢false (sym a))
+  inside-of s (inf true) a b l = absurd (true≢false (sym a))
+  inside-of s (inf false) a b l = absurd (true≢false (sym b))
+  inside-of s (fin true m e) a b l = absurd (not-negative 0 m e a)
+  inside-of true (fin false m e) a b l = held-whole true _ l
+  inside-of false (fin false m e) a b l = held-whole false _ l
+
+  -- from 2 ^ h on it is the end of the range
+  outside-of : Kept g → (s : Bool) (y : Float) → le (most 0) y ≡ true → lt y (most h) ≡ false → endOf h s ≡ rounded h g (signed s y)
+  unfolding le lt eq neg
+  outside-of k s nan a b = absurd (true≢false (sym a))
+  outside-of k s (inf true) a b = absurd (true≢false (sym a))
+  outside-of k true (inf false) a b = refl
+  outside-of k false (inf false) a b = refl
+  outside-of k s (fin true m e) a b = absurd (not-negative 0 m e a)
+  outside-of k true (fin false m e) a b =
+      held-end true _ (le-trans (le-div-iff-mul-le (down-pos e) .1 (beyond-most h m e b)) (k true (m * up e) (down e) (down-pos e)))
+  outside-of k false (fin false m e) a b =
+      held-end false _ (le-trans (le-div-iff-mul-le (down-pos e) .1 (beyond-most h m e b)) (k false (m * up e) (down e) (down-pos e)))
+
+  -- the same, of x
+  pub inside : (s : Bool) (x : Float) → le (most 0) (signed s x) ≡ true → lt (signed s x) (most h) ≡ true
+      → g s (num (signed s x)) (den (signed s x)) < 2 ^ h
+      → withSign s (g s (num (signed s x)) (den (signed s x))) ≡ rounded h g x
+  inside s x a b l = inside-of s (signed s x) a b l ∙ ap (rounded h g) (signed-twice s x)
+
+  pub outside : Kept g → (s : Bool) (x : Float) → le (most 0) (signed s x) ≡ true → lt (signed s x) (most h) ≡ false → endOf h s ≡ rounded h g x
+  outside k s x a b = outside-of k s (signed s x) a b ∙ ap (rounded h g) (signed-twice s x)
+
+-- ---- between -1 and 1
+
+held-zero : (h : ℕ) (s : Bool) (n : ℕ) → n ≡ 0 → pos 0 ≡ held h s n
+held-zero h true n z = let none : 0 ≡ min n (2 ^ h) = omega arith in ap (λ (k : ℕ). negℤ (pos k)) none
+held-zero h false n z = ap pos (omega arith)
+
+module _ (m : ℕ) (e : ℤ) where
+  -- below 1 the whole part is 0
+  cut : le (most 0) (fin false m e) ≡ false → toward (m * up e) (down e) ≡ 0
+  cut a = div-eq-of-lt (subst (λ (k : ℕ). m * up e < k) (one-mul (down e)) (not-at-least 0 m e a))
+
+  -- above 0 and not above 1, what is at or above it is 1
+  filled : 0 < m * up e → m * up e < 2 ^ 0 * down e → away (m * up e) (down e) ≡ 1
+  filled a b = away-one (m * up e) (down e) a (omega (arith, one-mul (down e)))
+
+  none : m * up e ≤ 0 → away (m * up e) (down e) ≡ 0
+  none a = omega (arith, away-le (m * up e) (down e) 0 (down-pos e) (omega arith))
+
+module _ (h : ℕ) where
+  pub truncation-small : (x : Float) → le (most 0) x ≡ false → le (most 0) (neg x) ≡ false → pos 0 ≡ rounded h inward x
+  unfolding le lt eq neg
+  truncation-small nan a b = refl
+  truncation-small (inf true) a b = absurd (true≢false b)
+  truncation-small (inf false) a b = absurd (true≢false a)
+  truncation-small (fin true m e) a b = held-zero h true _ (cut m e b)
+  truncation-small (fin false m e) a b = held-zero h false _ (cut m e a)
+
+  pub floor-below : (x : Float) → lt x nought ≡ true → lt (neg x) (most 0) ≡ true → negsuc 0 ≡ rounded h downward x
+  unfolding lt neg
+  floor-below nan a b = absurd (true≢false (sym a))
+  floor-below (inf true) a b = absurd (true≢false (sym b))
+  floor-below (inf false) a b = absurd (true≢false (sym a))
+  floor-below (fin true m e) a b =
+      let one : 1 ≡ min (away (m * up e) (down e)) (2 ^ h) = omega (arith, pow-pos h, filled m e (some-below m e a) (under-most 0 m e b)) in
+      ap (λ (k : ℕ). negℤ (pos k)) one
+  floor-below (fin false m e) a b = absurd (not-below m e a)
+
+  pub floor-small : (x : Float) → le (most 0) x ≡ false → lt x nought ≡ false → pos 0 ≡ rounded h downward x
+  unfolding le lt eq
+  floor-small nan a b = refl
+  floor-small (inf true) a b = absurd (true≢false b)
+  floor-small (inf false) a b = absurd (true≢false a)
+  floor-small (fin true m e) a b = held-zero h true _ (none m e (none-below m e b))
+  floor-small (fin false m e) a b = held-zero h false _ (cut m e a)
+
+  pub ceil-above : 1 ≤ h → (x : Float) → le (most 0) x ≡ false → lt nought x ≡ true → pos 1 ≡ rounded h upward x
+  unfolding le lt eq
+  ceil-above l nan a b = absurd (true≢false (sym b))
+  ceil-above l (inf true) a b = absurd (true≢false (sym b))
+  ceil-above l (inf false) a b = absurd (true≢false a)
+  ceil-above l (fin true m e) a b = absurd (not-above m e b)
+  ceil-above l (fin false m e) a b = ap pos (omega (arith, pow-mono l, filled m e (some-above m e b) (not-at-least 0 m e a)))
+
+  pub ceil-small : (x : Float) → lt nought x ≡ false → le (most 0) (neg x) ≡ false → pos 0 ≡ rounded h upward x
+  unfolding le lt eq neg
+  ceil-small nan a b = refl
+  ceil-small (inf true) a b = absurd (true≢false b)
+  ceil-small (inf false) a b = absurd (true≢false a)
+  ceil-small (fin true m e) a b = held-zero h true _ (cut m e b)
+  ceil-small (fin false m e) a b = held-zero h false _ (none m e (none-above m e a))
 
 -- ---- both are in the range
-
-minus-in : (k q : ℕ) → 0 < q → k ≤ q → mag (negℤ (pos k)) < q
-minus-in zero q p l = p
-minus-in (suc k) q p l = l
 
 module _ (h : ℕ) where
   held-in : (s : Bool) (n : ℕ) → mag (held h s n) < 2 ^ h
