@@ -1,5 +1,5 @@
 -- Up a column that ascends: its open spaces start one above the other, what is past stays past above it, and what was not reached and is not past stays behind.
-use mathlib.Core.Path.{_≡_}
+use mathlib.Core.Path.{_≡_, subst}
 use mathlib.Core.Bool.{Bool, true, false, _&&_, _||_}
 use mathlib.Core.List.{List, [], _∷_, map}
 use Prim.Native.Nat.{ℕ, zero, suc, _+_, _<_, _≤_, min, max}
@@ -13,7 +13,7 @@ use Rattle.field.specs.Spans.{range, Ascends}
 use Rattle.field.specs.Walkable.{walkable}
 use Rattle.field.specs.Open.{Open, opens}
 use Rattle.field.specs.Links.{topOf, passes}
-use Rattle.field.specs.Rowing.{past, Behind}
+use Rattle.field.specs.Rowing.{shownAt, past, Behind, AllBehind}
 use Rattle.field.proofs.Basics.{by-test}
 use Rattle.field.proofs.Opening.{nowhere}
 
@@ -83,3 +83,9 @@ module _ (tall climb : ℕ) where
 
       deep : ltb (o .y + climb) (n .y) ≡ false → leb (n .y) (o .y + climb) && leb (o .y) (n .y + climb) ≡ false → n .y + climb < o .y
       deep t u = by-test (leb (n .y) (o .y + climb)) (λ v. leb-false (o .y) (n .y + climb) (rw v at u)) (λ v. omega (arith, leb-false (n .y) (o .y + climb) v, ltb-false (o .y + climb) (n .y) t))
+
+  -- one more behind
+  pub behind-next : (y : ℕ) (ys ws : List ℕ) (k l : ℕ) → AllBehind tall climb y ys ws k l → Behind tall climb y (shownAt ys ws (k + l)) → AllBehind tall climb y ys ws k (l + 1)
+  behind-next y ys ws k l all next j h =
+      by-test (ltb j l) (λ t. all j (ltb-true j l t))
+      (λ t. let e : l ≡ j = omega (arith, ltb-false j l t) in subst (λ (i : ℕ). Behind tall climb y (shownAt ys ws (k + i))) e next)

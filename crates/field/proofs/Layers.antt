@@ -12,7 +12,7 @@ use lib.Dec.{ltb}
 use Rattle.compact_span.specs.Word.{emptyMark}
 use Rattle.field.specs.Open.{Open}
 use Rattle.field.specs.Links.{passes, lowest, largest, link, missed}
-use Rattle.field.specs.Rowing.{shownAt, shown, bare}
+use Rattle.field.specs.Rowing.{shownAt, shown, bare, NonePasses}
 use Rattle.field.proofs.Basics.{by-test}
 
 -- ---- the layers from `l` on, of `n` from place `k` on
@@ -82,17 +82,13 @@ module _ (ys ws : List ℕ) where
   -- ---- layers that do not pass
 
   module _ (k : ℕ) (pass : Open → Bool) where
-    -- none of the layers from `a` up to `b` passes
-    abbrev pub NonePasses : ℕ → ℕ → Type 0
-    NonePasses a b = (j : ℕ) → a ≤ j → j < b → pass (shownAt ys ws (k + j)) ≡ false
-
-    pub lowest-skip : (n l : ℕ) → l ≤ n → NonePasses 0 l → lowest pass l (rest k n l) ≡ lowest pass 0 (shown ys ws k n)
+    pub lowest-skip : (n l : ℕ) → l ≤ n → NonePasses ys ws k pass 0 l → lowest pass l (rest k n l) ≡ lowest pass 0 (shown ys ws k n)
     lowest-skip n zero h none = ap (lowest pass 0) (rest-start k n)
     lowest-skip n (suc l) h none =
         rw (← add-one l) (sym (lowest-miss k n pass l h (none l (omega arith) (omega arith))))
         ∙ lowest-skip n l (omega arith) (λ j a b. none j a (omega arith))
 
-    pub largest-skip : (best n m d : ℕ) → m + d ≤ n → NonePasses m (m + d) → largest pass best (m + d) (rest k n (m + d)) ≡ largest pass best m (rest k n m)
+    pub largest-skip : (best n m d : ℕ) → m + d ≤ n → NonePasses ys ws k pass m (m + d) → largest pass best (m + d) (rest k n (m + d)) ≡ largest pass best m (rest k n m)
     largest-skip best n m zero h none =
         let e : m + 0 ≡ m = omega arith in
         ap (λ (l : ℕ). largest pass best l (rest k n l)) e
@@ -103,7 +99,7 @@ module _ (ys ws : List ℕ) where
         ∙ largest-skip best n m d (omega arith) (λ j a b. none j a (omega arith))
 
     -- up to the end
-    pub largest-none : (best n m : ℕ) → m ≤ n → NonePasses m n → largest pass best m (rest k n m) ≡ best
+    pub largest-none : (best n m : ℕ) → m ≤ n → NonePasses ys ws k pass m n → largest pass best m (rest k n m) ≡ best
     largest-none best n m h none =
         let e : m + (n - m) ≡ n = omega arith in
         sym (largest-skip best n m (n - m) (omega arith) (λ j a b. none j a (omega arith)))
@@ -117,11 +113,11 @@ module _ (ys ws : List ℕ) where
     link-shown = ap (lowest pass 0) (shown-take k 62 n)
 
     -- the first layer that passes is the link, if one may go to it
-    pub link-first : (l : ℕ) → l < n → l < 62 → NonePasses k pass 0 l → pass (shownAt ys ws (k + l)) ≡ true → l ≡ link pass (shown ys ws k n)
+    pub link-first : (l : ℕ) → l < n → l < 62 → NonePasses ys ws k pass 0 l → pass (shownAt ys ws (k + l)) ≡ true → l ≡ link pass (shown ys ws k n)
     link-first l h few none e =
         sym (lowest-hit k (min 62 n) pass l (omega arith) e) ∙ lowest-skip k pass (min 62 n) l (omega arith) none ∙ link-shown
 
-    pub link-none : NonePasses k pass 0 (min 62 n) → emptyMark ≡ link pass (shown ys ws k n)
+    pub link-none : NonePasses ys ws k pass 0 (min 62 n) → emptyMark ≡ link pass (shown ys ws k n)
     link-none none =
         sym (lowest-end k (min 62 n) pass (min 62 n) (omega arith)) ∙ lowest-skip k pass (min 62 n) (min 62 n) (omega arith) none ∙ link-shown
 
@@ -136,7 +132,7 @@ module _ (ys ws : List ℕ) where
     missed-short : emptyMark ≡ link pass (shown ys ws k n) → n < 63 → 0 ≡ missed pass (shown ys ws k n)
     missed-short e h = rw (← e, drop-of-length-le (shown ys ws k n) {i = 63} (omega (arith, shown-length k n)))
 
-    pub missed-none : NonePasses k pass 0 n → 0 ≡ missed pass (shown ys ws k n)
+    pub missed-none : NonePasses ys ws k pass 0 n → 0 ≡ missed pass (shown ys ws k n)
     missed-none none =
         let e = link-none (λ j a b. none j a (omega arith)) in
         by-test (ltb n 63) (λ t. missed-short e (ltb-true n 63 t))

@@ -93,3 +93,7 @@ Behind tall climb y n = (o : Open) → y ≤ o .y → passes tall climb o n ≡ 
 -- the lowest `l` of those from place `k` on are so
 abbrev pub AllBehind : ℕ → ℕ → ℕ → List ℕ → List ℕ → ℕ → ℕ → Type 0
 AllBehind tall climb y ys ws k l = (j : ℕ) → j < l → Behind tall climb y (shownAt ys ws (k + j))
+
+-- of those from place `k` on, none from the `a`-th up to the `b`-th passes
+abbrev pub NonePasses : List ℕ → List ℕ → ℕ → (Open → Bool) → ℕ → ℕ → Type 0
+NonePasses ys ws k pass a b = (j : ℕ) → a ≤ j → j < b → pass (shownAt ys ws (k + j)) ≡ false

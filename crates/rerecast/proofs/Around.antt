@@ -12,7 +12,7 @@ use Rattle.field.specs.Links.{passes, around, wordOf, missedOf}
 use Rattle.field.specs.Rowing.{shownAt, bare, Cell, Shown}
 use Rattle.field.proofs.Sides.{Beside, beside-shown, beside-inside, word-bare, missed-of-bare}
 use Rattle.rerecast.specs.Compacting.{sideOf, layersOf, Within}
-use Rattle.rerecast.specs.declared.links.Side.{Side}
+use Rattle.rerecast.specs.declared.sides.Side.{Side}
 
 module _ {cs : List (List Open)} {ix sz ys ws : List ℕ} (S : Shown cs ix sz ys ws) where
   -- each number is a column's, or none
@@ -24,7 +24,9 @@ module _ {cs : List (List Open)} {ix sz ys ws : List ℕ} (S : Shown cs ix sz ys
 
   within-of : (ks : List ℕ) → Inside ks → Within ys ws (map (sideOf ix sz) ks)
   within-of [] i = tt
-  within-of (k ∷ ks) i = let b = side k (i 0) in (b .in-ys, b .in-words, within-of ks (λ d. i (suc d)))
+  within-of (k ∷ ks) i =
+      let b = side k (i 0) in
+      (record { in-ys = b .in-ys; in-words = b .in-words; climbs = b .climbs }, within-of ks (λ d. i (suc d)))
 
   layers-of : (ks : List ℕ) → Inside ks → layersOf ys ws (map (sideOf ix sz) ks) ≡ map (map bare) (map (λ k. getD cs k []) ks)
   layers-of [] i = refl

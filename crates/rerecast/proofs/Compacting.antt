@@ -15,7 +15,7 @@ use Rattle.field.specs.Open.{Open}
 use Rattle.field.specs.Links.{link, missed}
 use Rattle.field.specs.Rowing.{raisedBy}
 use Rattle.field.proofs.Sides.{link-small}
-use Rattle.rerecast.specs.declared.links.Side.{Side}
+use Rattle.rerecast.specs.declared.sides.Side.{Side}
 use Rattle.rerecast.specs.Compacting.{sideOf}
 
 -- raising a count that has room adds one to it

@@ -3,6 +3,7 @@ pub mod Admitted
 pub mod Answers
 pub mod Compacting
 pub mod Around
+pub mod LinkCursors
 pub mod CompactCall
 pub mod Filtered
 pub mod Rasterizing

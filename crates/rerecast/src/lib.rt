@@ -10,6 +10,7 @@ mod mesh_admission;
 pub mod pre_filter;
 pub mod rasterize;
 mod rows;
+mod sides;
 mod slices;
 mod soundness;
 mod turns;

@@ -1,23 +1,22 @@
 // The links between open spaces side by side: to which layer of the cell beside each leads, and the word that holds all four.
 use crate::insertion::greater;
 use crate::pre_filter::within;
+use crate::sides::Around;
+use crate::sides::Side;
+use crate::sides::around_column;
 use crate::slices::index;
 use crate::soundness::wide;
 use compact_span::CompactSpan;
-use field::NONE;
 ghost use mathlib.Core.Path.{_≡_};
 ghost use mathlib.Core.Bool.{cond};
 ghost use mathlib.Core.List.{List, [], map, foldl};
 ghost use Prim.Native.Nat.{_+_, _-_, _*_, _≤_, _<_, min, max};
 ghost use lib.ListN.{length, getD};
 ghost use lib.Seq.{sets};
-ghost use lib.Dec.{eqb};
-ghost use Rattle.field.specs.Slots.{none};
-ghost use Rattle.field.specs.Beside.{besideAt, beside};
-ghost use Rattle.field.specs.Open.{Open, space, cells};
-ghost use Rattle.field.specs.Links.{passes, lowest, largest, link, missed, around, wordOf, missedOf, words, largestMissed};
-ghost use Rattle.field.specs.Rowing.{shown, Shown};
-ghost use Rattle.rerecast.specs.Compacting.{sideOf, sidesOf, layersOf, Within};
+ghost use Rattle.field.specs.Open.{Open, space};
+ghost use Rattle.field.specs.Links.{passes, largest, link, missed, around, wordOf, missedOf, words, largestMissed};
+ghost use Rattle.field.specs.Rowing.{shown, Climbs, Shown, past, AllBehind, NonePasses};
+ghost use Rattle.rerecast.specs.Compacting.{sidesOf, layersOf, Lies, Within, cursorsOf, Left, AllLeft, Looked};
 
 // An open space, and what an agent there needs: the walkable height and the climb.
 struct Post {
@@ -25,20 +24,6 @@ struct Post {
     height: u8,
     tall: u16,
     climb: u16,
-}
-
-// A cell beside: the place of its first open space, and how many it has.
-struct Side {
-    first: usize,
-    count: u8,
-}
-
-// The cells beside a column, by direction.
-struct Around {
-    side0: Side,
-    side1: Side,
-    side2: Side,
-    side3: Side,
 }
 
 // The link in one direction, and the layer that it misses.
@@ -101,7 +86,7 @@ fn can_pass(q: Post, y: u16, height: u8) -> bool
 
 // Whether an agent passes to no open space beside that starts at `y` or above.
 fn is_past(q: Post, y: u16) -> bool
-    ensures { λ r. ⌜ (r ≡ true → (n : Open) → y ≤ n .y → passes (q .tall) (q .climb) (space (q .y) (q .height) 0) n ≡ false) × (r ≡ false → Near (q .tall) (q .climb) (q .y) (q .height) y) ⌝ }
+    ensures { λ r. ⌜ r ≡ past (q .tall) (q .climb) (space (q .y) (q .height) 0) y ⌝ }
 {
     let bottom = wide(greater(q.y, y)) + wide(q.tall);
     if wide(q.y) + wide_height(q.height) < bottom {
@@ -117,7 +102,10 @@ struct Look {
 }
 
 // Looks through `n` layers from place `first` on, from layer `from` up.
-fn look_up(ys: &[u16], data: &[u32], first: usize, n: u8, from: u8, q: Post) -> Look {
+fn look_up(ys: &[u16], data: &[u32], first: usize, n: u8, from: u8, q: Post) -> Look
+    requires { ⌜ (from ≤ n) × (first + n ≤ length (now ys)) × (first + n ≤ length (now «data»)) × Climbs (now ys) first n × AllBehind (q .tall) (q .climb) (q .y) (now ys) (now «data») first from ⌝ }
+    ensures { λ r. ⌜ Looked (q .tall) (q .climb) (space (q .y) (q .height) 0) (now (ys .entry)) (now («data» .entry)) first n r ⌝ }
+{
     let mut l = from;
     while l < n {
         let k = first + l as usize;
@@ -150,7 +138,10 @@ fn better(pass: bool, l: u8, best: u8) -> u8
 }
 
 // The largest of the layers from 63 up to `n` that an agent passes to, or 0. None below `from` is one.
-fn largest_layer(ys: &[u16], data: &[u32], first: usize, n: u8, from: u8, q: Post) -> u8 {
+fn largest_layer(ys: &[u16], data: &[u32], first: usize, n: u8, from: u8, q: Post) -> u8
+    requires { ⌜ (63 ≤ n) × (from ≤ n) × (first + n ≤ length (now ys)) × (first + n ≤ length (now «data»)) × Climbs (now ys) first n × NonePasses (now ys) (now «data») first (passes (q .tall) (q .climb) (space (q .y) (q .height) 0)) 0 from ⌝ }
+    ensures { λ r. ⌜ r ≡ largest (passes (q .tall) (q .climb) (space (q .y) (q .height) 0)) 0 63 (shown (now (ys .entry)) (now («data» .entry)) (first + 63) (n - 63)) ⌝ }
+{
     let mut l: u8 = greater_layer(63, from);
     let mut best: u8 = 0;
     while l < n {
@@ -166,7 +157,10 @@ fn largest_layer(ys: &[u16], data: &[u32], first: usize, n: u8, from: u8, q: Pos
 }
 
 // The link of an open space to a cell beside. The layers below `from` are out of reach.
-fn link_to(ys: &[u16], data: &[u32], side: Side, from: u8, q: Post) -> Found {
+fn link_to(ys: &[u16], data: &[u32], side: Side, from: u8, q: Post) -> Found
+    requires { ⌜ Lies (now ys) (now «data») side × Left (q .tall) (q .climb) (q .y) (now ys) (now «data») side from ⌝ }
+    ensures { λ r. ⌜ (r .layer ≡ link (passes (q .tall) (q .climb) (space (q .y) (q .height) 0)) (shown (now (ys .entry)) (now («data» .entry)) (side .first) (side .count))) × (r .missed ≡ missed (passes (q .tall) (q .climb) (space (q .y) (q .height) 0)) (shown (now (ys .entry)) (now («data» .entry)) (side .first) (side .count))) × Left (q .tall) (q .climb) (q .y) (now (ys .entry)) (now («data» .entry)) side (r .from) ⌝ }
+{
     let first = side.first;
     let n = side.count;
     let look = look_up(ys, data, first, n, from, q);
@@ -194,7 +188,10 @@ fn link_to(ys: &[u16], data: &[u32], side: Side, from: u8, q: Post) -> Found {
 }
 
 // The word of an open space with its links to the cells beside.
-fn bind(ys: &[u16], data: &[u32], r: Around, t: Cursors, q: Post) -> Bound {
+fn bind(ys: &[u16], data: &[u32], r: Around, t: Cursors, q: Post) -> Bound
+    requires { ⌜ Within (now ys) (now «data») (sidesOf r) × AllLeft (q .tall) (q .climb) (q .y) (now ys) (now «data») (sidesOf r) (cursorsOf t) ⌝ }
+    ensures { λ b. ⌜ (b .word ≡ wordOf (passes (q .tall) (q .climb)) (layersOf (now (ys .entry)) (now («data» .entry)) (sidesOf r)) (space (q .y) (q .height) 0)) × (b .missed ≡ missedOf (passes (q .tall) (q .climb)) (layersOf (now (ys .entry)) (now («data» .entry)) (sidesOf r)) (space (q .y) (q .height) 0)) × AllLeft (q .tall) (q .climb) (q .y) (now (ys .entry)) (now («data» .entry)) (sidesOf r) (cursorsOf (b .cursors)) ⌝ }
+{
     let a = link_to(ys, data, r.side0, t.from0, q);
     let b = link_to(ys, data, r.side1, t.from1, q);
     let c = link_to(ys, data, r.side2, t.from2, q);
@@ -214,82 +211,6 @@ fn bind(ys: &[u16], data: &[u32], r: Around, t: Cursors, q: Post) -> Bound {
         word,
         missed,
         cursors,
-    }
-}
-
-// A column's number.
-fn column_at(width: usize, depth: usize, x: usize, z: usize) -> usize
-    requires { ⌜ (x < width) × (z < depth) × (width * depth ≤ 1048576) ⌝ }
-    ensures { λ r. ⌜ (r ≡ x + z * width) × (r < width * depth) ⌝ }
-{
-    x + z * width
-}
-
-// The number of the column beside x, z in a direction, or none off the grid.
-fn beside_at(width: usize, depth: usize, x: usize, z: usize, dir: u8) -> usize
-    requires { ⌜ (x < width) × (z < depth) × (width * depth ≤ 1048576) × (dir < 4) ⌝ }
-    ensures { λ r. ⌜ (r ≡ getD (besideAt width depth x z) dir 0) × ((r ≡ none → ⊥) → r < width * depth) ⌝ }
-{
-    if dir == 0 {
-        if 0 < x {
-            return column_at(width, depth, x - 1, z);
-        }
-        return NONE as usize;
-    }
-    if dir == 1 {
-        if z + 1 < depth {
-            return column_at(width, depth, x, z + 1);
-        }
-        return NONE as usize;
-    }
-    if dir == 2 {
-        if x + 1 < width {
-            return column_at(width, depth, x + 1, z);
-        }
-        return NONE as usize;
-    }
-    if 0 < z {
-        return column_at(width, depth, x, z - 1);
-    }
-    NONE as usize
-}
-
-// The cell with number `k`, and an empty one where that is none.
-fn side_at(cell_indices: &[u32], cell_counts: &[u8], k: usize) -> Side
-    requires { ⌜ ((k ≡ none → ⊥) → (k < length (now «cell_indices»)) × (k < length (now «cell_counts»))) ⌝ }
-    ensures { λ r. ⌜ (r .first ≡ cond (eqb k none) 0 (getD (now («cell_indices» .entry)) k 0)) × (r .count ≡ cond (eqb k none) 0 (getD (now («cell_counts» .entry)) k 0)) ⌝ }
-{
-    if k == NONE as usize {
-        return Side { first: 0, count: 0 };
-    }
-    Side {
-        first: index(cell_indices[k]),
-        count: cell_counts[k],
-    }
-}
-
-// The cells beside a column.
-fn around_column(
-    cell_indices: &[u32],
-    cell_counts: &[u8],
-    width: usize,
-    depth: usize,
-    column: usize,
-) -> Around
-    requires { ⌜ (column < width * depth) × (width * depth ≤ 1048576) × (width * depth ≤ length (now «cell_indices»)) × (width * depth ≤ length (now «cell_counts»)) ⌝ }
-    ensures { λ r. ⌜ sidesOf r ≡ map (sideOf (now («cell_indices» .entry)) (now («cell_counts» .entry))) (beside width depth column) ⌝ }
-{
-    let x = column % width;
-    let z = column / width;
-    let side0 = side_at(cell_indices, cell_counts, beside_at(width, depth, x, z, 0));
-    let side1 = side_at(cell_indices, cell_counts, beside_at(width, depth, x, z, 1));
-    let side2 = side_at(cell_indices, cell_counts, beside_at(width, depth, x, z, 2));
-    let side3 = side_at(cell_indices, cell_counts, beside_at(width, depth, x, z, 3));
-    Around {
-        side0,
-        side1,
-        side2,
-        side3,
     }
 }
 

@@ -10,7 +10,7 @@ use Rattle.field.specs.Open.{columnsOf, cells}
 use Rattle.field.specs.Links.{passes}
 use Rattle.field.specs.Compact.{rows, Room}
 use Rattle.field.specs.Rowing.{Shown}
-use Rattle.field.proofs.Opening.{cells-wide}
+use Rattle.field.proofs.Opening.{columns-wide, cells-wide, column-ascends}
 use Rattle.field.proofs.ReadingBack.{shown-of}
 use Rattle.field.proofs.Sides.{completed}
 use borrow.Author.Needs.{needs}
@@ -26,7 +26,7 @@ there : (c : tie.After-fill-columns) (free : ℕ) (f : Field) → let s = c .bef
 there c free f H r =
     let p = c .before .before .before .before .before .before .before .before .before .before .before .before .before .before .before .before .pre .0 in
     let e = wide (c .before .before .before .before .before .before .before .before .before .before .before .before .before .before .before .before) free f H in
-    shown-of (c .fill-columns .ensures free f H) r (omega (arith, e, p .0, p .2)) (omega (arith, e, p .0, p .3)) (omega (arith, e, p .1))
+    shown-of (c .fill-columns .ensures free f H) r (omega (arith, e, p .0, p .2)) (omega (arith, e, p .0, p .3)) (omega (arith, e, p .1)) (λ i l. column-ascends H i (omega (arith, columns-wide H)))
 
 fill-columns-requires : tie.Need-fill-columns-requires
 fill-columns-requires c κs =

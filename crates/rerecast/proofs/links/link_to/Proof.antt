@@ -1,53 +1,70 @@
--- The lowest layer that passes is the link; where there is none, and there are layers from 63 on, the largest of those that passes is missed.
+-- The first layer that is not behind is the link, if it passes and a link may go to it. Where none does, and there are layers from 63 on, the largest of those
+-- that passes is missed.
 use mathlib.Core.Path.{_≡_}
+use mathlib.Core.Bool.{Bool}
 use native.Mathlib.Omega.{arith}
-use Rattle.field.specs.Open.{space}
+use Prim.Native.Nat.{min, _≤_}
+use borrow.Author.Tests.{not-true, not-false}
+use Rattle.compact_span.specs.Word.{emptyMark}
+use Rattle.field.specs.Open.{Open, space}
 use Rattle.field.specs.Links.{passes, link}
 use Rattle.field.specs.Rowing.{shown}
-use Rattle.field.proofs.Layers.{link-shown, missed-linked, missed-short, missed-shown}
+use Rattle.field.proofs.Layers.{link-first, link-none, missed-linked, missed-shown, missed-none}
 use borrow.Author.Needs.{needs}
+use Rattle.rerecast.specs.Compacting.{Left}
+use Rattle.rerecast.proofs.LinkCursors.{none-below, none-at-all}
 use Rattle.rerecast.proofs.links.link_to.Statement.{statement}
 use Rattle.rerecast.proofs.links.link_to.Tie as tie
 
-linked : (c : tie.After-lowest-layer) → let s = c .before .before .before .before .args in c .lowest-layer .result ≡ link (passes (s .q .tall) (s .q .climb) (space (s .q .y) (s .q .height) 0)) (shown (s .ys .now) (s .«data» .now) (s .side .first) (s .side .count))
-linked c =
-    let s = c .before .before .before .before .args in
-    link-shown (s .ys .now) (s .«data» .now) (s .side .first) (s .side .count) (passes (s .q .tall) (s .q .climb) (space (s .q .y) (s .q .height) 0)) (rw (c .before .linkable .ensures) at (c .lowest-layer .ensures))
+look-up-requires : tie.Need-look-up-requires
+look-up-requires c κs =
+    let p = c .before .before .pre in
+    (p .1 .few, p .0 .in-ys, p .0 .in-words, p .0 .climbs, p .1 .behind)
 
-linkable-requires : tie.Need-linkable-requires
-linkable-requires c κs = search needs
-
-lowest-layer-requires : tie.Need-lowest-layer-requires
-lowest-layer-requires c κs =
-    let p = c .before .before .before .pre in
-    let e = c .linkable .ensures in
-    (omega arith, omega (arith, p .0), omega (arith, p .1))
+-- the layers below the one looked at are behind
+behind-now : (c : tie.After-look-up) → let s = c .before .before .before .args in Left (s .q .tall) (s .q .climb) (s .q .y) (s .ys .now) (s .«data» .now) (s .side) (c .look-up .result .at)
+behind-now c = record { few = c .look-up .ensures .few; behind = c .look-up .ensures .behind }
 
 returns : tie.Need-returns
 returns c =
     let s = c .before .before .before .before .before .args in
-    (linked (c .before), missed-linked (s .ys .now) (s .«data» .now) (s .side .first) (s .side .count) _ (linked (c .before)) (c .if1 .taken))
+    let pass : Open → Bool = passes (s .q .tall) (s .q .climb) (space (s .q .y) (s .q .height) 0) in
+    let none = none-at-all (c .before .before .look-up .ensures) (not-true _ (c .if1 .taken)) in (
+      link-none (s .ys .now) (s .«data» .now) (s .side .first) (s .side .count) pass (λ j a b. none j a (omega arith)),
+      missed-none (s .ys .now) (s .«data» .now) (s .side .first) (s .side .count) pass none,
+      behind-now (c .before .before),
+    )
 
 returns-2 : tie.Need-returns-2
 returns-2 c =
     let s = c .before .before .before .before .before .before .args in
-    (linked (c .before .before), missed-short (s .ys .now) (s .«data» .now) (s .side .first) (s .side .count) _ (linked (c .before .before)) (c .before .if1 .left) (c .if2 .taken))
+    let pass : Open → Bool = passes (s .q .tall) (s .q .climb) (space (s .q .y) (s .q .height) 0) in
+    let L = c .before .before .before .look-up .ensures in
+    let hit = L .hit (not-false _ (c .before .if1 .left)) in
+    let e = link-first (s .ys .now) (s .«data» .now) (s .side .first) (s .side .count) pass (c .before .before .before .look-up .result .at) (hit .0) (c .if2 .taken) (none-below L) (hit .1) in
+    (e, missed-linked (s .ys .now) (s .«data» .now) (s .side .first) (s .side .count) pass e (c .if2 .taken), behind-now (c .before .before .before))
+
+-- where the look ends at 62 or above no link may go to a layer
+unlinked : (c : tie.Else2) → let s = c .before .before .before .before .before .before .args in emptyMark ≡ link (passes (s .q .tall) (s .q .climb) (space (s .q .y) (s .q .height) 0)) (shown (s .ys .now) (s .«data» .now) (s .side .first) (s .side .count))
+unlinked c =
+    let s = c .before .before .before .before .before .before .args in
+    link-none (s .ys .now) (s .«data» .now) (s .side .first) (s .side .count) _ (λ j a b. none-below (c .before .before .before .look-up .ensures) j a (omega (arith, c .if2 .left)))
+
+-- and there is a layer 63
+many : (c : tie.Else2) → 63 ≤ c .before .before .before .before .before .before .args .side .count
+many c = omega (arith, c .if2 .left, c .before .before .before .look-up .ensures .hit (not-false _ (c .before .if1 .left)) .0)
 
 largest-layer-requires : tie.Need-largest-layer-requires
-largest-layer-requires c κs = search needs
+largest-layer-requires c κs =
+    let p = c .before .before .before .before .before .before .pre in
+    let L = c .before .before .before .look-up .ensures in
+    (many c, L .few, p .0 .in-ys, p .0 .in-words, p .0 .climbs, none-below L)
 
 returns-3 : tie.Need-returns-3
 returns-3 c =
     let s = c .before .before .before .before .before .before .before .args in
-    (linked (c .before .before .before), missed-shown (s .ys .now) (s .«data» .now) (s .side .first) (s .side .count) _ (linked (c .before .before .before)) (c .before .before .if1 .left) (c .before .if2 .left) (c .largest-layer .ensures))
+    (unlinked (c .before), missed-shown (s .ys .now) (s .«data» .now) (s .side .first) (s .side .count) _ (unlinked (c .before)) (many (c .before)) (c .largest-layer .ensures), behind-now (c .before .before .before .before))
 
 pub link-to-spec : {M : Type 1} → statement M
 link-to-spec =
-    tie.close
-    (tie.spec
-    linkable-requires
-    lowest-layer-requires
-    returns
-    returns-2
-    largest-layer-requires
-    returns-3)
+    tie.close (tie.spec look-up-requires returns returns-2 largest-layer-requires returns-3)

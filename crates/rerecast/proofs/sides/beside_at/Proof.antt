@@ -3,8 +3,8 @@ use mathlib.Core.Path.{_≡_, refl}
 use native.Mathlib.Omega.{arith}
 use borrow.Author.Tests.{lt-ltb, le-ltb}
 use borrow.Author.Needs.{needs}
-use Rattle.rerecast.proofs.links.beside_at.Statement.{statement}
-use Rattle.rerecast.proofs.links.beside_at.Tie as tie
+use Rattle.rerecast.proofs.sides.beside_at.Statement.{statement}
+use Rattle.rerecast.proofs.sides.beside_at.Tie as tie
 
 -- none of the directions before is the last
 last : (c : tie.Else5) → c .before .before .before .args .dir ≡ 3

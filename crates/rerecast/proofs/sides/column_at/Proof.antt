@@ -3,8 +3,8 @@ use mathlib.Core.Path.{refl}
 use native.Mathlib.Omega.{arith}
 use Prim.Native.Nat.{_+_, _*_, _<_}
 use Rattle.field.proofs.Growing.{cell-below}
-use Rattle.rerecast.proofs.links.column_at.Statement.{statement}
-use Rattle.rerecast.proofs.links.column_at.Tie as tie
+use Rattle.rerecast.proofs.sides.column_at.Statement.{statement}
+use Rattle.rerecast.proofs.sides.column_at.Tie as tie
 
 -- the number is one of a column
 below : (c : tie.Start) → c .args .x + c .args .z * c .args .width < c .args .width * c .args .depth

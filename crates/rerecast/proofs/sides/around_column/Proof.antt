@@ -3,8 +3,8 @@ use Prim.Native.Nat.{_<_, _%_, _/_}
 use native.Mathlib.Omega.{arith}
 use Rattle.field.proofs.Beside.{some-width, place}
 use Rattle.rerecast.proofs.Compacting.{side-is}
-use Rattle.rerecast.proofs.links.around_column.Statement.{statement}
-use Rattle.rerecast.proofs.links.around_column.Tie as tie
+use Rattle.rerecast.proofs.sides.around_column.Statement.{statement}
+use Rattle.rerecast.proofs.sides.around_column.Tie as tie
 
 -- the column's place on the grid
 spot : (c : tie.Start) → let s = c .args in (s .column % s .width < s .width) × (s .column / s .width < s .depth)

@@ -2,8 +2,8 @@
 use native.Mathlib.Omega.{arith}
 use borrow.Author.Tests.{eq-eqb, ne-eqb}
 use borrow.Author.Needs.{needs}
-use Rattle.rerecast.proofs.links.side_at.Statement.{statement}
-use Rattle.rerecast.proofs.links.side_at.Tie as tie
+use Rattle.rerecast.proofs.sides.side_at.Statement.{statement}
+use Rattle.rerecast.proofs.sides.side_at.Tie as tie
 
 cast-if1 : tie.Need-cast-if1
 cast-if1 c = search needs
