@@ -6,4 +6,5 @@ pub mod Folds
 pub mod Holds
 pub mod Snaps
 pub mod Works
+pub mod Flat
 pub mod Tried
