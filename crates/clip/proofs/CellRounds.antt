@@ -16,7 +16,7 @@ use Rattle.clip.specs.declared.cell.Piece.{Piece}
 use Rattle.clip.specs.Cut.{nought, xOf, yOf, around, firstOf, secondOf}
 use Rattle.clip.specs.Arrays.{half, countsOf}
 use Rattle.clip.specs.Slices.{together}
-use Rattle.clip.specs.Cell.{flatVertex, flatAt, piece, pieceOf, Celled, celled, cellCutOf, heightWith, pieceWith, cellGrown}
+use Rattle.clip.specs.Cell.{flatVertex, flatAt, piece, Celled, celled, cellCutOf, heightWith, pieceWith, cellGrown}
 use Rattle.clip.proofs.Places.{Clear, sets-both, sets-kept}
 use Rattle.clip.proofs.Turns.{Growing}
 
@@ -43,9 +43,13 @@ module _ (choice : Float → Float → Float) where
   heights-append n v f f′ = rw (map-append yOf f f′, ← length-map f yOf) (height-append n v (map yOf f) (map yOf f′))
 
 -- ---- the round
+pub piece-none : (p : Piece) → p ≡ pieceWith p [] []
+unfolding pieceWith heightWith
+piece-none p = rw (add-zero (p .counts .first), add-zero (p .counts .second))
+
 pub by-none : (to : ℕ) (δ : Celled) → cellGrown to δ [] [] ≡ δ
-unfolding cellGrown pieceWith heightWith
-by-none to δ = rw (add-zero (δ .kept .counts .first), add-zero (δ .kept .counts .second))
+unfolding cellGrown
+by-none to δ = rw (← piece-none (δ .kept))
 
 pub firsts : (to : ℕ) (δ : Celled) (f s : List Corner) → cellGrown to δ f s .kept .counts .first ≡ δ .kept .counts .first + length f
 unfolding cellGrown pieceWith
@@ -110,10 +114,6 @@ pub counted-more : (p : Piece) (v : Corner) (low high : Float) → 0 < p .counts
 unfolding pieceWith
 counted-more p v low high h e e′ =
     rw (e, e′, height-one lesserOf (p .counts .first) (p .low) (v .y) h, height-one greaterOf (p .counts .first) (p .high) (v .y) h, add-zero (p .counts .second))
-
-pub counted-none : (p : Piece) → p ≡ pieceWith p [] []
-unfolding pieceWith heightWith
-counted-none p = rw (add-zero (p .counts .first), add-zero (p .counts .second))
 
 -- ---- a vertex for each part
 pub joined : (to : ℕ) (p q : Piece) (xs ys xs′ ys′ : List Float) (f s : List Corner) (n : ℕ)

@@ -25,7 +25,7 @@ join-requires-2 c κs = search needs
 
 join-requires-3 : tie.Need-join-requires-3
 join-requires-3 c κs =
-    let n = grown-counts (dividing (c .before .before .before .before .before .before .before .before .before .before .before .before .before .before .before .args .to)) _ _ _ _ (c .before .before .before .before .before .before .join2 .ensures) in
+    let n = grown-counts (dividing _) _ _ _ _ (c .before .before .before .before .before .before .join2 .ensures) in
     (omega arith, omega arith)
 
 returns-2 : tie.Need-returns-2
