@@ -35,7 +35,7 @@ fn bare(n: usize) -> Piece
     }
 }
 
-// Its z is never stored.
+// The vertex at a place. It has a z so that `crossing` serves here too; nobody stores that.
 fn get_flat(xs: &[f32; 28], ys: &[f32; 28], at: usize) -> Corner
     requires { ⌜ at < 28 ⌝ }
     ensures { λ r. ⌜ r ≡ flatVertex (now (xs .entry)) (now (ys .entry)) at ⌝ }
