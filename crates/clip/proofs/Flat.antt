@@ -19,7 +19,7 @@ use Rattle.clip.specs.Cell.{flatAt, piece, pieceOf, Celled, celled, cell
 use Rattle.clip.specs.Slices.{heldFirst, heldLast}
 use Rattle.clip.specs.Work.{Event, onCut, slices, within, fromTo, firstCell, lastCell, edgeAt, cellEvents, rowEvents}
 use Rattle.clip.proofs.Places.{read-back}
-use Rattle.clip.proofs.Rounds.{halves}
+use Rattle.clip.proofs.Turns.{halves}
 
 -- a vertex with 0 for its z, and a polygon of such
 abbrev pub flat : Corner → Corner
@@ -100,7 +100,7 @@ abbrev pub Blind : (List Corner → List Event) → Type 0
 Blind gives = (vs : List Corner) → gives vs ≡ gives (flatten vs)
 
 -- it makes the same of two polygons that differ in z alone
-pub blind-to : (gives : List Corner → List Event) → Blind gives → (vs ws : List Corner) → flatten vs ≡ flatten ws → gives vs ≡ gives ws
+blind-to : (gives : List Corner → List Event) → Blind gives → (vs ws : List Corner) → flatten vs ≡ flatten ws → gives vs ≡ gives ws
 blind-to gives blind vs ws e = blind vs ∙ ap gives e ∙ sym (blind ws)
 
 cut-blind : (offset : Float) (near rest : List Corner → List Event) → Blind near → Blind rest → Blind (λ vs. onCut (cutOf X offset vs) near rest)

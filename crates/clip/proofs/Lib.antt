@@ -1,5 +1,7 @@
 pub mod Places
+pub mod Turns
 pub mod Rounds
+pub mod CellRounds
 pub mod Cuts
 pub mod Polys
 pub mod Folds

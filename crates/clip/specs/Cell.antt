@@ -1,12 +1,13 @@
 -- The cut of a row's part at the end of a cell: what is kept of the cell's part, and what is left for the cells behind it. Definitions only.
 -- Along x a vertex's z counts for nothing (proofs/Flat.antt), so a row's part stands in two arrays, one for x and one for y.
-use Prim.Native.Nat.{ℕ, zero, suc}
+use Prim.Native.Nat.{ℕ, zero, suc, _+_}
 use mathlib.Core.Bool.{Bool, not, cond}
-use mathlib.Core.List.{List, [], _∷_, map}
+use mathlib.Core.List.{List, [], _∷_, map, foldl}
 use lib.Dec.{leb}
 use lib.ListN.{length, getD}
 use lib.Seq.{sets}
 use lib.Ieee.{Float, nan}
+use Rattle.ops.specs.Order.{lesserOf, greaterOf}
 use Rattle.grid.specs.declared.Corner.{Corner}
 use Rattle.clip.specs.declared.cut.Axis.the-variants.{X}
 use Rattle.clip.specs.declared.cut.Counts.{Counts}
@@ -50,3 +51,24 @@ cellCutOf upper n offset xs ys =
     cond (leb n mostVertices)
     (celled (pieceOf first second) (sets xs (half (not upper)) (map xOf second)) (sets ys (half (not upper)) (map yOf second)))
     (celled (piece (countsOf 8 8) nought nought) xs ys)
+
+-- ---- for the steps of a cut
+-- what n numbers came to, with more of them; where there were none, what stood there counts for nothing
+unfoldable pub heightWith : (Float → Float → Float) → ℕ → Float → List Float → Float
+heightWith choice n v [] = v
+heightWith choice zero v (y ∷ ys) = foldl choice y ys
+heightWith choice (suc n) v (y ∷ ys) = foldl choice (choice v y) ys
+
+-- what is kept, with more vertices for both parts
+unfoldable pub pieceWith : Piece → List Corner → List Corner → Piece
+pieceWith p first second =
+    piece
+    (countsOf (p .counts .first + length first) (p .counts .second + length second))
+    (heightWith lesserOf (p .counts .first) (p .low) (map yOf first))
+    (heightWith greaterOf (p .counts .first) (p .high) (map yOf first))
+
+-- the same with the arrays, where the second part stands from place `to` on
+unfoldable pub cellGrown : ℕ → Celled → List Corner → List Corner → Celled
+cellGrown to δ first second =
+    let at = to + δ .kept .counts .second in
+    celled (pieceWith (δ .kept) first second) (sets (δ .xs) at (map xOf second)) (sets (δ .ys) at (map yOf second))
