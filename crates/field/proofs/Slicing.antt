@@ -16,13 +16,13 @@ use Rattle.clip.specs.declared.cut.Axis.{Axis}
 use Rattle.clip.specs.declared.cut.Counts.{Counts}
 use Rattle.clip.specs.declared.cut.Axis.the-variants.{X}
 use Rattle.clip.specs.Cut.{Cut, parts, eighth, firstOf, secondOf, cutOf}
-use Rattle.clip.specs.Arrays.{Arrays, polygonAt, half, Divided, divideOf}
+use Rattle.clip.specs.Arrays.{Arrays, arrays, polygonAt, half, Divided, divideOf}
 use Rattle.clip.specs.Cell.{flatAt, Celled, cellCutOf}
 use Rattle.clip.specs.Slices.{heldFirst}
 use Rattle.clip.specs.Work.{Event, insert as offer, stop, andThen, onCut, slices, within, fromTo}
 use Rattle.clip.proofs.Places.{Long}
 use Rattle.clip.proofs.Cuts.{first-eighth, second-eighth, both-parts}
-use Rattle.clip.proofs.Flat.{Blind, slices-blind, within-blind, kept-is, left-flat}
+use Rattle.clip.proofs.Flat.{Blind, slices-blind, within-blind, flat-polygon, kept-is, left-flat}
 use Rattle.field.specs.Working.{numbered, turnEvents, turnsTo}
 use Rattle.field.proofs.Basics.{by-test}
 
@@ -112,6 +112,10 @@ module _ (d : Counts) (gives : ℕ → List Corner → List Event) where
       turn-part (suc k) vs p h =
           let e : suc k - 1 ≡ k = omega arith in
           rw (le-leb (d .first) 7 first-fits, le-leb (d .second) 7 second-fits, le-ltb (length vs) 3 h, e)
+
+  -- of work that does not hang on z
+  pub turn-flat : ((n : ℕ) → Blind (gives n)) → (k : ℕ) (xs ys zs : List Float) (n : ℕ) → turnEvents d gives k (polygonAt (arrays xs ys zs) 0 n) ≡ turnEvents d gives k (flatAt xs ys 0 n)
+  turn-flat blind k xs ys zs n = rw (within-blind gives blind (numbered k) (polygonAt (arrays xs ys zs) 0 n), flat-polygon xs ys zs 0 n)
 
 -- ---- from the first to the last, counted from the one before the grid on
 
