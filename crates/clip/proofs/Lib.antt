@@ -1,9 +1,12 @@
 pub mod Places
+pub mod Turns
 pub mod Rounds
+pub mod CellRounds
 pub mod Cuts
 pub mod Polys
 pub mod Folds
 pub mod Holds
 pub mod Snaps
 pub mod Works
+pub mod Flat
 pub mod Tried

@@ -27,7 +27,7 @@ sets-append : {A : Type 0} (l : List A) (i : ℕ) (us vs : List A) → sets l i 
 sets-append l i [] vs = rw (add-zero i)
 sets-append l i (u ∷ us) vs = rw (add-suc i (length us), ← suc-add i (length us)) (sets-append (set l i u) (suc i) us vs)
 
-sets-both : (f : Corner → Float) (l : List Float) (i : ℕ) (us vs : List Corner) → sets l i (map f (us ++ vs)) ≡ sets (sets l i (map f us)) (i + length us) (map f vs)
+pub sets-both : (f : Corner → Float) (l : List Float) (i : ℕ) (us vs : List Corner) → sets l i (map f (us ++ vs)) ≡ sets (sets l i (map f us)) (i + length us) (map f vs)
 sets-both f l i us vs = rw (map-append f us vs, ← length-map us f) (sets-append l i (map f us) (map f vs))
 
 pub written-append : (a : Arrays) (at : ℕ) (us vs : List Corner) → written a at (us ++ vs) ≡ written (written a at us) (at + length us) vs
@@ -42,7 +42,7 @@ sets-kept l at [] i o h = refl
 sets-kept l at (v ∷ vs) i o (inl h) = sets-kept (set l at v) (suc at) vs i o (inl (omega arith)) ∙ getD-set-other l at i v o (λ e. omega (arith, e))
 sets-kept l at (v ∷ vs) i o (inr h) = sets-kept (set l at v) (suc at) vs i o (inr (omega arith)) ∙ getD-set-other l at i v o (λ e. omega (arith, e))
 
-vertex-kept : (a : Arrays) (at : ℕ) (vs : List Corner) (i : ℕ) → Clear i 1 at (length vs) → vertexAt (written a at vs) i ≡ vertexAt a i
+pub vertex-kept : (a : Arrays) (at : ℕ) (vs : List Corner) (i : ℕ) → Clear i 1 at (length vs) → vertexAt (written a at vs) i ≡ vertexAt a i
 vertex-kept a at vs i h =
     cc (
       sets-kept (a .xs) at (map xOf vs) i nan (rw (length-map vs xOf) h),
@@ -50,21 +50,13 @@ vertex-kept a at vs i h =
       sets-kept (a .zs) at (map zOf vs) i nan (rw (length-map vs zOf) h),
     )
 
-clear-head : (from n at k : ℕ) → Clear from (suc n) at k → Clear from 1 at k
+pub clear-head : (from n at k : ℕ) → Clear from (suc n) at k → Clear from 1 at k
 clear-head from n at k (inl h) = inl (omega arith)
 clear-head from n at k (inr h) = inr h
 
-clear-tail : (from n at k : ℕ) → Clear from (suc n) at k → Clear (suc from) n at k
+pub clear-tail : (from n at k : ℕ) → Clear from (suc n) at k → Clear (suc from) n at k
 clear-tail from n at k (inl h) = inl (omega arith)
 clear-tail from n at k (inr h) = inr (omega arith)
-
-pub polygon-kept : (a : Arrays) (at : ℕ) (vs : List Corner) (from n : ℕ) → Clear from n at (length vs) → polygonAt (written a at vs) from n ≡ polygonAt a from n
-polygon-kept a at vs from zero h = refl
-polygon-kept a at vs from (suc n) h =
-    cc (
-      vertex-kept a at vs from (clear-head from n at (length vs) h),
-      polygon-kept a at vs (suc from) n (clear-tail from n at (length vs) h),
-    )
 
 -- ---- arrays of a length
 pub record Long (n : ℕ) (a : Arrays) : Type 0 where

@@ -29,7 +29,7 @@ fn coordinate(v: Corner, axis: Axis) -> f32
 }
 
 // b + (a - b) * s, with s = db / (db - da).
-fn crossing(b: Corner, a: Corner, db: f32, da: f32) -> Corner
+pub(crate) fn crossing(b: Corner, a: Corner, db: f32, da: f32) -> Corner
     ensures { λ r. ⌜ r ≡ crossingOf b a db da ⌝ }
 {
     let s = db / (db - da);
@@ -180,7 +180,7 @@ fn go_round(
 }
 
 // Where the lower half of an array begins, or the upper one.
-fn half_at(upper: bool) -> usize
+pub(crate) fn half_at(upper: bool) -> usize
     ensures { λ r. ⌜ r ≡ half upper ⌝ }
 {
     if upper { 14 } else { 0 }

@@ -1,14 +1,14 @@
 -- Of a cell's part and of a row's: what it gives, by the numbers that code has of it, and how many insertions there can be.
-use mathlib.Core.Path.{_≡_, refl, sym, ap, _∙_}
+use mathlib.Core.Path.{_≡_, sym}
 use mathlib.Core.Bool.{Bool, true, false, _||_, cond}
 use mathlib.Core.List.{List, [], _∷_, map}
-use Prim.Native.Nat.{ℕ, zero, suc, _+_, _-_, _*_, _≤_, _<_, min}
+use Prim.Native.Nat.{ℕ, _+_, _-_, _*_, _≤_, _<_, min}
 use native.Mathlib.Numerals.{add-one}
 use native.Mathlib.Omega.{arith}
 use lib.Dec.{eqb}
 use lib.IntN.{ℤ, pos, negsuc}
 use lib.Signed.{ltZ, leZ}
-use lib.ListN.{length, length-map, getD}
+use lib.ListN.{length, getD}
 use lib.Ieee.{Float, nan}
 use Rattle.grid.specs.declared.Corner.{Corner}
 use Rattle.clip.specs.declared.cut.Axis.{Axis}
@@ -27,27 +27,18 @@ use Rattle.field.specs.Working.{numbered, turnsTo}
 use Rattle.field.proofs.Basics.{by-test}
 use Rattle.field.proofs.Slicing.{from-to, from-to-most, slices-length}
 
-length-numbers : (l : List Float) (from n : ℕ) → length (numbersAt l from n) ≡ n
-length-numbers l from zero = refl
-length-numbers l from (suc n) = ap suc (length-numbers l (suc from) n)
-
--- a part has as many vertices as it has ys
-pub part-length : (part : List Corner) (ys : List Float) (n : ℕ) → map yOf part ≡ numbersAt ys 0 n → length part ≡ n
-part-length part ys n e = sym (length-map part yOf) ∙ ap length e ∙ length-numbers ys 0 n
-
 pub all-of : (n : ℕ) → n ≤ 28 → min n 28 ≡ n
 all-of n h = omega arith
 
 -- ---- a cell
 
--- by what `snap_of` answered
-pub cell-is : (f : Frame) (z x : ℕ) (part : List Corner) (ys : List Float) (n : ℕ) → map yOf part ≡ numbersAt ys 0 n → n ≤ 28
-    → (low high : Float) → low ≡ leastOf (numbersAt ys 0 (min n 28)) → high ≡ greatestOf (numbersAt ys 0 (min n 28))
+-- by what `snap_of` answered of its lowest and its highest y
+pub cell-is : (f : Frame) (z x : ℕ) (part : List Corner) (low high : Float) → leastOf (map yOf part) ≡ low → greatestOf (map yOf part) ≡ high
     → (r : Snap) → saidOf r ≡ snapSays maxHeight low high (f .grid .min .y) (f .tall) (f .rise)
     → cellEvents f z x part ≡ onSnap r [] (stop 7 ∷ []) (λ floor ceiling. offer x z floor ceiling ∷ [])
 unfolding cellEvents
-cell-is f z x part ys n e few low high el eh r says =
-    rw (e, ← all-of n few, ← el, ← eh) (sym (snap-tells maxHeight low high (f .grid .min .y) (f .tall) (f .rise) r says [] (stop 7 ∷ []) (λ floor ceiling. offer x z floor ceiling ∷ [])))
+cell-is f z x part low high el eh r says =
+    rw (el, eh) (sym (snap-tells maxHeight low high (f .grid .min .y) (f .tall) (f .rise) r says [] (stop 7 ∷ []) (λ floor ceiling. offer x z floor ceiling ∷ [])))
 
 snapped-one : (top : ℕ) (low high bottom tall rise : Float) (x z : ℕ) → length (snapped top low high bottom tall rise [] (stop 7 ∷ []) (λ floor ceiling. offer x z floor ceiling ∷ [])) ≤ 1
 unfolding snapped

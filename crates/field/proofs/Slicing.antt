@@ -14,12 +14,15 @@ use borrow.Author.Tests.{lt-ltb, le-ltb, le-leb, lt-leb, leb-true, leb-false}
 use Rattle.grid.specs.declared.Corner.{Corner}
 use Rattle.clip.specs.declared.cut.Axis.{Axis}
 use Rattle.clip.specs.declared.cut.Counts.{Counts}
-use Rattle.clip.specs.Cut.{Cut, parts, eighth, cutOf}
-use Rattle.clip.specs.Arrays.{Arrays, polygonAt, half, Divided, divideOf}
+use Rattle.clip.specs.declared.cut.Axis.the-variants.{X}
+use Rattle.clip.specs.Cut.{Cut, parts, eighth, firstOf, secondOf, cutOf}
+use Rattle.clip.specs.Arrays.{Arrays, arrays, polygonAt, half, Divided, divideOf}
+use Rattle.clip.specs.Cell.{flatAt, Celled, cellCutOf}
 use Rattle.clip.specs.Slices.{heldFirst}
 use Rattle.clip.specs.Work.{Event, insert as offer, stop, andThen, onCut, slices, within, fromTo}
 use Rattle.clip.proofs.Places.{Long}
 use Rattle.clip.proofs.Cuts.{first-eighth, second-eighth, both-parts}
+use Rattle.clip.proofs.Flat.{Blind, slices-blind, within-blind, flat-polygon, kept-is, left-flat}
 use Rattle.field.specs.Working.{numbered, turnEvents, turnsTo}
 use Rattle.field.proofs.Basics.{by-test}
 
@@ -60,6 +63,32 @@ module _ (axis : Axis) (edge : ℤ → Float) (gives : ℕ → List Corner → L
       let e : suc last - k ≡ 0 = omega arith in
       rw e
 
+-- the same of a cut at the end of a cell, for work that does not hang on z
+module _ (edge : ℤ → Float) (gives : ℕ → List Corner → List Event) (blind : (x : ℕ) → Blind (gives x)) (last k : ℕ) (upper : Bool) (n : ℕ) (xs ys : List Float)
+    (δ : Celled) (e : δ ≡ cellCutOf upper n (edge (numbered k)) xs ys) (few : n ≤ 7) (lx : length xs ≡ 28) (ly : length ys ≡ 28) (inside : k ≤ last) where
+  abbrev cell : List Corner
+  cell = firstOf X (edge (numbered k)) (flatAt xs ys (half upper) n)
+
+  abbrev behind : List Corner
+  behind = secondOf X (edge (numbered k)) (flatAt xs ys (half upper) n)
+
+  behind-turns : length behind ≤ 7 → turnsTo X edge gives last (k + 1) behind ≡ turnsTo X edge gives last (k + 1) (flatAt (δ .xs) (δ .ys) (half (not upper)) (length behind))
+  behind-turns h =
+      rw (left-flat upper n (edge (numbered k)) xs ys δ e few lx ly (omega arith))
+      (slices-blind edge (λ at part. within gives at part) (within-blind gives blind) (suc last - (k + 1)) (numbered (k + 1)) behind)
+
+  pub cells-turn : turnsTo X edge gives last k (flatAt xs ys (half upper) n)
+      ≡ andThen (turnEvents (δ .kept .counts) gives k cell) (turnsTo X edge gives last (k + 1) (flatAt (δ .xs) (δ .ys) (half (not upper)) (δ .kept .counts .second)))
+  unfolding cutOf andThen
+  cells-turn =
+      next X edge gives last k (flatAt xs ys (half upper) n) inside
+      ∙ rw (kept-is upper n (edge (numbered k)) xs ys δ e few)
+      (by-test (leb (length cell) 7)
+      (λ p. by-test (leb (length behind) 7)
+      (λ q. rw (p, q, behind-turns (leb-true (length behind) 7 q)))
+      (λ q. rw (p, q)))
+      (λ p. rw p))
+
 -- ---- what one turn gives
 
 module _ (d : Counts) (gives : ℕ → List Corner → List Event) where
@@ -83,6 +112,10 @@ module _ (d : Counts) (gives : ℕ → List Corner → List Event) where
       turn-part (suc k) vs p h =
           let e : suc k - 1 ≡ k = omega arith in
           rw (le-leb (d .first) 7 first-fits, le-leb (d .second) 7 second-fits, le-ltb (length vs) 3 h, e)
+
+  -- of work that does not hang on z
+  pub turn-flat : ((n : ℕ) → Blind (gives n)) → (k : ℕ) (xs ys zs : List Float) (n : ℕ) → turnEvents d gives k (polygonAt (arrays xs ys zs) 0 n) ≡ turnEvents d gives k (flatAt xs ys 0 n)
+  turn-flat blind k xs ys zs n = rw (within-blind gives blind (numbered k) (polygonAt (arrays xs ys zs) 0 n), flat-polygon xs ys zs 0 n)
 
 -- ---- from the first to the last, counted from the one before the grid on
 

@@ -1,30 +1,24 @@
 -- What the rasteriser's inner functions owe one another: an insertion's answer, how many insertions a step can have made, and a turn of the loops over rows
 -- and columns.
 use mathlib.Core.Path.{_≡_, refl, sym, ap, subst, _∙_}
-use mathlib.Core.Bool.{Bool, true, false, not, _&&_}
+use mathlib.Core.Bool.{Bool, true, false, _&&_}
 use mathlib.Core.List.{List, [], _∷_}
 use Prim.Native.Nat.{ℕ, _+_, _*_, _≤_, _<_}
 use native.Mathlib.Omega.{arith}
 use lib.Dec.{leb}
-use lib.IntN.{ℤ}
 use lib.ListN.{length}
-use lib.Ieee.{Float}
 use borrow.Author.Tests.{leb-true}
 use Rattle.grid.specs.declared.Corner.{Corner}
 use Rattle.grid.specs.declared.Grid.{Grid}
-use Rattle.clip.specs.declared.cut.Axis.{Axis}
 use Rattle.clip.specs.declared.cut.Counts.{Counts}
 use Rattle.clip.specs.declared.frame.Frame.{Frame}
-use Rattle.clip.specs.Arrays.{Arrays, polygonAt, half, Divided, divideOf}
 use Rattle.clip.specs.Work.{Event, insert as offer, stop, andThen, frameOf}
-use Rattle.clip.proofs.Places.{Long}
 use Rattle.field.specs.Slots.{Slots}
 use Rattle.field.specs.Field.{Field, Holds, Inserted, insert}
 use Rattle.field.specs.Carrying.{Carried, went, stopped, carry}
-use Rattle.field.specs.Working.{Remains, numbered, turnEvents, turnsTo}
+use Rattle.field.specs.Working.{Remains, turnEvents}
 use Rattle.field.proofs.Basics.{by-test}
 use Rattle.field.proofs.Carrying.{madeIn, made-few, insertion-made, insertion-refused, remains-then, remains-as}
-use Rattle.field.proofs.Slicing.{turns-turn}
 use Rattle.rerecast.specs.Inner.{Lands}
 use Rattle.rerecast.specs.Rasterize.{numberOf, madeBy, leftBy, Carries, Sides, Ready}
 use Rattle.rerecast.specs.declared.insertion.Landing.{Landing}
@@ -81,33 +75,24 @@ went-fits job made f d gives k vs r m {heads} {t} q C =
     let z : _≡_ {A = ℕ} 0 1 = cc in
     absurd (omega arith))
 
--- ---- a turn of the loop over rows or columns
+-- ---- a turn of the loop over rows or columns, which takes the work `near` off what is left
 
-module _ (job : Job) (axis : Axis) (edge : ℤ → Float) (gives : ℕ → List Corner → List Event) (last k : ℕ) (upper : Bool) (n : ℕ) (a b : Arrays) (δ : Divided)
-    (e : δ ≡ divideOf upper n axis (edge (numbered k)) a b) (few : n ≤ 7) (la : Long 28 a) (lb : Long 28 b) (inside : k ≤ last) (count : ℕ) where
-  abbrev part : List Corner
-  part = polygonAt (δ .part) 0 (δ .counts .first)
+module _ (job : Job) {es : List Event} (near more : List Event) (e : es ≡ andThen near more) (count : ℕ) {o : Carried} {heads : List ℕ} {t : Slots}
+    (R : Remains (job .frame .width) (job .threshold) (job .area) o count es heads t) {heads′ : List ℕ} {t′ : Slots} where
+  turned : (r : Step) → Carries job count (R .field) near r heads′ t′ → Remains (job .frame .width) (job .threshold) (job .area) o (madeBy r) (andThen (leftBy r) more) heads′ t′
+  turned r C =
+      remains-then (job .frame .width) (job .threshold) (job .area) count (R .field) near more
+      (ap (λ (l : List Event). carry (job .frame .width) (job .threshold) (job .area) count (R .field) l) (sym e) ∙ R .comes) C
 
-  abbrev more : List Event
-  more = turnsTo axis edge gives last (k + 1) (polygonAt (δ .polygon) (half (not upper)) (δ .counts .second))
+  pub turn-went : (r : Step) (m : ℕ) → r ≡ Went m → Carries job count (R .field) near r heads′ t′ → Remains (job .frame .width) (job .threshold) (job .area) o m more heads′ t′
+  unfolding andThen
+  turn-went r m q C = turned (Went m) (subst (λ (s : Step). Carries job count (R .field) near s heads′ t′) q C)
 
-  module _ {o : Carried} {heads : List ℕ} {t : Slots}
-      (R : Remains (job .frame .width) (job .threshold) (job .area) o count (turnsTo axis edge gives last k (polygonAt a (half upper) n)) heads t) {heads′ : List ℕ} {t′ : Slots} where
-    turned : (r : Step) → Carries job count (R .field) (turnEvents (δ .counts) gives k part) r heads′ t′ → Remains (job .frame .width) (job .threshold) (job .area) o (madeBy r) (andThen (leftBy r) more) heads′ t′
-    turned r C =
-        remains-then (job .frame .width) (job .threshold) (job .area) count (R .field) (turnEvents (δ .counts) gives k part) more
-        (ap (λ (es : List Event). carry (job .frame .width) (job .threshold) (job .area) count (R .field) es) (sym (turns-turn axis edge gives last k upper n a b δ e few la lb inside)) ∙ R .comes) C
-
-    pub turn-went : (r : Step) (m : ℕ) → r ≡ Went m → Carries job count (R .field) (turnEvents (δ .counts) gives k part) r heads′ t′
-        → Remains (job .frame .width) (job .threshold) (job .area) o m more heads′ t′
-    unfolding andThen
-    turn-went r m q C = turned (Went m) (subst (λ (s : Step). Carries job count (R .field) (turnEvents (δ .counts) gives k part) s heads′ t′) q C)
-
-    pub turn-stopped : (r : Step) (why : Stop) (m : ℕ) → r ≡ Stopped why m → Carries job count (R .field) (turnEvents (δ .counts) gives k part) r heads′ t′
-        → Remains (job .frame .width) (job .threshold) (job .area) o (madeBy r) (leftBy r) heads′ t′
-    unfolding andThen
-    turn-stopped r why m q C =
-        remains-as (job .frame .width) (job .threshold) (job .area) (madeBy r) (subst (λ (s : Step). andThen (leftBy s) more ≡ leftBy s) (sym q) refl) (turned r C)
+  pub turn-stopped : (r : Step) (why : Stop) (m : ℕ) → r ≡ Stopped why m → Carries job count (R .field) near r heads′ t′
+      → Remains (job .frame .width) (job .threshold) (job .area) o (madeBy r) (leftBy r) heads′ t′
+  unfolding andThen
+  turn-stopped r why m q C =
+      remains-as (job .frame .width) (job .threshold) (job .area) (madeBy r) (subst (λ (s : Step). andThen (leftBy s) more ≡ leftBy s) (sym q) refl) (turned r C)
 
 -- ---- the lent slices keep their lengths
 

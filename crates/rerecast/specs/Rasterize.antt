@@ -81,3 +81,8 @@ pub record AllPlaces (xs ys zs : List Float) : Type 0 where
   pub all-xs : length xs ≡ 28
   pub all-ys : length ys ≡ 28
   pub all-zs : length zs ≡ 28
+
+-- two arrays with all their places
+pub record BothPlaces (xs ys : List Float) : Type 0 where
+  pub all-xs : length xs ≡ 28
+  pub all-ys : length ys ≡ 28

@@ -9,6 +9,7 @@ use crate::turns::first_of;
 use crate::turns::misses;
 use crate::turns::number;
 use crate::turns::part_of;
+use clip::cell::Piece;
 use clip::cut::Axis;
 use clip::cut::Counts;
 use clip::frame::Frame;
@@ -19,12 +20,14 @@ ghost use mathlib.Core.Path.{_≡_};
 ghost use mathlib.Core.List.{List, [], _∷_, _++_, map};
 ghost use Prim.Native.Nat.{ℕ, _/_, _<_, _≤_};
 ghost use Rattle.clip.specs.Cut.{yOf};
-ghost use Rattle.clip.specs.Arrays.{arrays, numbersAt, polygonAt};
+ghost use Rattle.clip.specs.Arrays.{arrays, polygonAt};
+ghost use Rattle.clip.specs.Cell.{flatAt, pieceOf};
+ghost use Rattle.clip.specs.Slices.{leastOf, greatestOf};
 ghost use Rattle.clip.specs.Work.{insert, edgeAt, cellEvents, rowEvents};
 ghost use Rattle.field.specs.Slots.{slots};
 ghost use Rattle.field.specs.Field.{Field, Holds, Held};
 ghost use Rattle.field.specs.Working.{turnEvents, turnsTo};
-ghost use Rattle.rerecast.specs.Rasterize.{Carries, Ready, AllPlaces};
+ghost use Rattle.rerecast.specs.Rasterize.{Carries, Ready, AllPlaces, BothPlaces};
 
 // One insertion.
 fn put(
@@ -67,7 +70,7 @@ fn put(
     }
 }
 
-// The part of cell x, z, whose n vertices have these ys.
+// The part of cell x, z, whose ys go from `low` to `high`.
 fn place(
     heads: &mut [u32],
     free: &mut u32,
@@ -76,19 +79,17 @@ fn place(
     areas: &mut [u8],
     nexts: &mut [u32],
     job: Job,
-    ys: &[f32; 28],
-    n: usize,
+    low: f32,
+    high: f32,
     x: u32,
     z: u32,
     made: u32,
 ) -> Step
-    requires { ⌜ Ready (job .frame) (now heads) × (x < job .frame .width) × (z < job .frame .height) × (n ≤ 28) × (made < 4294967295) ⌝ }
+    requires { ⌜ Ready (job .frame) (now heads) × (x < job .frame .width) × (z < job .frame .height) × (made < 4294967295) ⌝ }
     requires { ⌜ ((others : List ℕ) × Held (now heads ++ others) (slots (now free) (now floors) (now ceilings) (now areas) (now nexts))) ⌝ }
-    ensures { λ r. ⌜ ((others : List ℕ) (f : Field) (part : List Corner) → map yOf part ≡ numbersAt (now (ys .entry)) 0 n → Holds (now (heads .entry) ++ others) (slots (now (free .entry)) (now (floors .entry)) (now (ceilings .entry)) (now (areas .entry)) (now (nexts .entry))) f → Carries job made f (cellEvents (job .frame) z x part) r (now (heads .exit) ++ others) (slots (now (free .exit)) (now (floors .exit)) (now (ceilings .exit)) (now (areas .exit)) (now (nexts .exit)))) ⌝ }
+    ensures { λ r. ⌜ ((others : List ℕ) (f : Field) (part : List Corner) → leastOf (map yOf part) ≡ low → greatestOf (map yOf part) ≡ high → Holds (now (heads .entry) ++ others) (slots (now (free .entry)) (now (floors .entry)) (now (ceilings .entry)) (now (areas .entry)) (now (nexts .entry))) f → Carries job made f (cellEvents (job .frame) z x part) r (now (heads .exit) ++ others) (slots (now (free .exit)) (now (floors .exit)) (now (ceilings .exit)) (now (areas .exit)) (now (nexts .exit)))) ⌝ }
 {
     let f = job.frame;
-    let low = clip::slices::least_of(ys, n);
-    let high = clip::slices::greatest_of(ys, n);
     match clip::heights::snap_of(low, high, f.grid.min.y, f.tall, f.rise) {
         Snap::Outside => Step::Went(made),
         Snap::TooHigh => Step::Stopped(Stop::TooHigh, made),
@@ -109,7 +110,7 @@ fn place(
     }
 }
 
-// What a cut gives to column k of row z. The first part's ys are here.
+// What a cut gives to column k of row z.
 fn column(
     heads: &mut [u32],
     free: &mut u32,
@@ -118,17 +119,16 @@ fn column(
     areas: &mut [u8],
     nexts: &mut [u32],
     job: Job,
-    d: Counts,
-    ys: &[f32; 28],
+    d: Piece,
     k: u32,
     z: u32,
     made: u32,
 ) -> Step
     requires { ⌜ Ready (job .frame) (now heads) × (k ≤ job .frame .width) × (z < job .frame .height) × (made < 4294967295) ⌝ }
     requires { ⌜ ((others : List ℕ) × Held (now heads ++ others) (slots (now free) (now floors) (now ceilings) (now areas) (now nexts))) ⌝ }
-    ensures { λ r. ⌜ ((others : List ℕ) (f : Field) (part : List Corner) → map yOf part ≡ numbersAt (now (ys .entry)) 0 (d .first) → Holds (now (heads .entry) ++ others) (slots (now (free .entry)) (now (floors .entry)) (now (ceilings .entry)) (now (areas .entry)) (now (nexts .entry))) f → Carries job made f (turnEvents d (cellEvents (job .frame) z) k part) r (now (heads .exit) ++ others) (slots (now (free .exit)) (now (floors .exit)) (now (ceilings .exit)) (now (areas .exit)) (now (nexts .exit)))) ⌝ }
+    ensures { λ r. ⌜ ((others : List ℕ) (f : Field) (first second : List Corner) → d ≡ pieceOf first second → Holds (now (heads .entry) ++ others) (slots (now (free .entry)) (now (floors .entry)) (now (ceilings .entry)) (now (areas .entry)) (now (nexts .entry))) f → Carries job made f (turnEvents (d .counts) (cellEvents (job .frame) z) k first) r (now (heads .exit) ++ others) (slots (now (free .exit)) (now (floors .exit)) (now (ceilings .exit)) (now (areas .exit)) (now (nexts .exit)))) ⌝ }
 {
-    match part_of(d, k) {
+    match part_of(d.counts, k) {
         Part::Eighth => Step::Stopped(Stop::EighthVertex, made),
         Part::Nothing => Step::Went(made),
         Part::Polygon => place(
@@ -139,8 +139,8 @@ fn column(
             areas,
             nexts,
             job,
-            ys,
-            d.first,
+            d.low,
+            d.high,
             k - 1,
             z,
             made,
@@ -159,42 +159,26 @@ fn columns(
     job: Job,
     xs: &[f32; 28],
     ys: &[f32; 28],
-    zs: &[f32; 28],
     n: usize,
     z: u32,
     first: u32,
     last: u32,
     made: u32,
 ) -> Step
-    requires { ⌜ Ready (job .frame) (now heads) × (z < job .frame .height) × (n ≤ 7) × (last ≤ job .frame .width) × (made ≤ 16781312) × AllPlaces (now xs) (now ys) (now zs) ⌝ }
+    requires { ⌜ Ready (job .frame) (now heads) × (z < job .frame .height) × (n ≤ 7) × (last ≤ job .frame .width) × (made ≤ 16781312) × BothPlaces (now xs) (now ys) ⌝ }
     requires { ⌜ ((others : List ℕ) × Held (now heads ++ others) (slots (now free) (now floors) (now ceilings) (now areas) (now nexts))) ⌝ }
-    ensures { λ r. ⌜ ((others : List ℕ) (f : Field) → Holds (now (heads .entry) ++ others) (slots (now (free .entry)) (now (floors .entry)) (now (ceilings .entry)) (now (areas .entry)) (now (nexts .entry))) f → Carries job made f (turnsTo Axis.X (edgeAt (job .frame) Axis.X) (cellEvents (job .frame) z) last first (polygonAt (arrays (now (xs .entry)) (now (ys .entry)) (now (zs .entry))) 0 n)) r (now (heads .exit) ++ others) (slots (now (free .exit)) (now (floors .exit)) (now (ceilings .exit)) (now (areas .exit)) (now (nexts .exit)))) ⌝ }
+    ensures { λ r. ⌜ ((others : List ℕ) (f : Field) → Holds (now (heads .entry) ++ others) (slots (now (free .entry)) (now (floors .entry)) (now (ceilings .entry)) (now (areas .entry)) (now (nexts .entry))) f → Carries job made f (turnsTo Axis.X (edgeAt (job .frame) Axis.X) (cellEvents (job .frame) z) last first (flatAt (now (xs .entry)) (now (ys .entry)) 0 n)) r (now (heads .exit) ++ others) (slots (now (free .exit)) (now (floors .exit)) (now (ceilings .exit)) (now (areas .exit)) (now (nexts .exit)))) ⌝ }
 {
     let grid = job.frame.grid;
     let mut px = *xs;
     let mut py = *ys;
-    let mut pz = *zs;
-    let mut cx = [0.0f32; 28];
-    let mut cy = [0.0f32; 28];
-    let mut cz = [0.0f32; 28];
     let mut upper = false;
     let mut rest = n;
     let mut count = made;
     let mut k = first;
     while k <= last {
         let end = clip::slices::edge(grid.min.x, grid.cell_size, number(k));
-        let d = clip::cut::divide(
-            &mut px,
-            &mut py,
-            &mut pz,
-            upper,
-            rest,
-            Axis::X,
-            end,
-            &mut cx,
-            &mut cy,
-            &mut cz,
-        );
+        let d = clip::cell::cut_cell(&mut px, &mut py, upper, rest, end);
         let step = column(
             heads,
             free,
@@ -204,7 +188,6 @@ fn columns(
             nexts,
             job,
             d,
-            &cy,
             k,
             z,
             count,
@@ -213,7 +196,7 @@ fn columns(
             return step;
         };
         count = m;
-        rest = d.second;
+        rest = d.counts.second;
         upper = !upper;
         k += 1;
     }
@@ -231,14 +214,13 @@ fn row(
     job: Job,
     xs: &[f32; 28],
     ys: &[f32; 28],
-    zs: &[f32; 28],
     n: usize,
     z: u32,
     made: u32,
 ) -> Step
-    requires { ⌜ Ready (job .frame) (now heads) × (z < job .frame .height) × (n ≤ 7) × (made ≤ 16781312) × AllPlaces (now xs) (now ys) (now zs) ⌝ }
+    requires { ⌜ Ready (job .frame) (now heads) × (z < job .frame .height) × (n ≤ 7) × (made ≤ 16781312) × BothPlaces (now xs) (now ys) ⌝ }
     requires { ⌜ ((others : List ℕ) × Held (now heads ++ others) (slots (now free) (now floors) (now ceilings) (now areas) (now nexts))) ⌝ }
-    ensures { λ r. ⌜ ((others : List ℕ) (f : Field) → Holds (now (heads .entry) ++ others) (slots (now (free .entry)) (now (floors .entry)) (now (ceilings .entry)) (now (areas .entry)) (now (nexts .entry))) f → Carries job made f (rowEvents (job .frame) z (polygonAt (arrays (now (xs .entry)) (now (ys .entry)) (now (zs .entry))) 0 n)) r (now (heads .exit) ++ others) (slots (now (free .exit)) (now (floors .exit)) (now (ceilings .exit)) (now (areas .exit)) (now (nexts .exit)))) ⌝ }
+    ensures { λ r. ⌜ ((others : List ℕ) (f : Field) → Holds (now (heads .entry) ++ others) (slots (now (free .entry)) (now (floors .entry)) (now (ceilings .entry)) (now (areas .entry)) (now (nexts .entry))) f → Carries job made f (rowEvents (job .frame) z (flatAt (now (xs .entry)) (now (ys .entry)) 0 n)) r (now (heads .exit) ++ others) (slots (now (free .exit)) (now (floors .exit)) (now (ceilings .exit)) (now (areas .exit)) (now (nexts .exit)))) ⌝ }
 {
     let f = job.frame;
     let x0 = clip::slices::cell_at(f.grid.min.x, f.inverse, clip::slices::least_of(xs, n));
@@ -258,7 +240,6 @@ fn row(
         job,
         xs,
         ys,
-        zs,
         n,
         z,
         first,
@@ -267,7 +248,7 @@ fn row(
     )
 }
 
-// What a cut gives to row k. The first part is here.
+// What a cut gives to row k. The first part's xs and ys are here: along x its zs count for nothing.
 fn row_at(
     heads: &mut [u32],
     free: &mut u32,
@@ -279,13 +260,12 @@ fn row_at(
     d: Counts,
     xs: &[f32; 28],
     ys: &[f32; 28],
-    zs: &[f32; 28],
     k: u32,
     made: u32,
 ) -> Step
-    requires { ⌜ Ready (job .frame) (now heads) × (k ≤ job .frame .height) × (made ≤ 16781312) × AllPlaces (now xs) (now ys) (now zs) ⌝ }
+    requires { ⌜ Ready (job .frame) (now heads) × (k ≤ job .frame .height) × (made ≤ 16781312) × BothPlaces (now xs) (now ys) ⌝ }
     requires { ⌜ ((others : List ℕ) × Held (now heads ++ others) (slots (now free) (now floors) (now ceilings) (now areas) (now nexts))) ⌝ }
-    ensures { λ r. ⌜ ((others : List ℕ) (f : Field) → Holds (now (heads .entry) ++ others) (slots (now (free .entry)) (now (floors .entry)) (now (ceilings .entry)) (now (areas .entry)) (now (nexts .entry))) f → Carries job made f (turnEvents d (rowEvents (job .frame)) k (polygonAt (arrays (now (xs .entry)) (now (ys .entry)) (now (zs .entry))) 0 (d .first))) r (now (heads .exit) ++ others) (slots (now (free .exit)) (now (floors .exit)) (now (ceilings .exit)) (now (areas .exit)) (now (nexts .exit)))) ⌝ }
+    ensures { λ r. ⌜ ((others : List ℕ) (f : Field) → Holds (now (heads .entry) ++ others) (slots (now (free .entry)) (now (floors .entry)) (now (ceilings .entry)) (now (areas .entry)) (now (nexts .entry))) f → Carries job made f (turnEvents d (rowEvents (job .frame)) k (flatAt (now (xs .entry)) (now (ys .entry)) 0 (d .first))) r (now (heads .exit) ++ others) (slots (now (free .exit)) (now (floors .exit)) (now (ceilings .exit)) (now (areas .exit)) (now (nexts .exit)))) ⌝ }
 {
     match part_of(d, k) {
         Part::Eighth => Step::Stopped(Stop::EighthVertex, made),
@@ -300,7 +280,6 @@ fn row_at(
             job,
             xs,
             ys,
-            zs,
             d.first,
             k - 1,
             made,
@@ -363,7 +342,6 @@ pub(crate) fn rows(
             d,
             &rx,
             &ry,
-            &rz,
             k,
             count,
         );

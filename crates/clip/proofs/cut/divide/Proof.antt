@@ -2,7 +2,8 @@
 use borrow.Author.Needs.{needs}
 use mathlib.Core.Path.{_∙_}
 use native.Mathlib.Omega.{arith}
-use Rattle.clip.proofs.Rounds.{divide-many, divide-none, divide-some, halves}
+use Rattle.clip.proofs.Turns.{halves}
+use Rattle.clip.proofs.Rounds.{divide-many, divide-none, divide-some}
 use Rattle.clip.proofs.cut.divide.Statement.{statement}
 use Rattle.clip.proofs.cut.divide.Tie as tie
 

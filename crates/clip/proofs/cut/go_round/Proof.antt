@@ -9,7 +9,8 @@ use denote.Ref.{now}
 use Rattle.grid.specs.declared.Corner.{Corner}
 use Rattle.clip.specs.Cut.{distance}
 use Rattle.clip.specs.Arrays.{Divided, arrays, countsOf, divided}
-use Rattle.clip.proofs.Rounds.{still, still-all, still-none, still-turn, grown-two}
+use Rattle.clip.proofs.Turns.{still, still-all, still-none, still-turn, grown-two}
+use Rattle.clip.proofs.Rounds.{dividing}
 use Rattle.clip.proofs.cut.go_round.Statement.{statement}
 use Rattle.clip.proofs.cut.go_round.Tie as tie
 
@@ -19,7 +20,7 @@ Inv-loop xs₀ ys₀ zs₀ from to n axis offset rx₀ ry₀ rz₀ p₀ b₀ db�
     × (p .first ≤ i + i)
     × (p .second ≤ i + i)
     × (db ≡ distance axis offset b)
-    × (still axis offset from to n i b (divided p (arrays xs ys zs) (arrays rx ry rz)) ≡ still axis offset from to n i₀ b₀ (divided p₀ (arrays xs₀ ys₀ zs₀) (arrays rx₀ ry₀ rz₀)))
+    × (still (dividing to) axis offset from n i b (divided p (arrays xs ys zs) (arrays rx ry rz)) ≡ still (dividing to) axis offset from n i₀ b₀ (divided p₀ (arrays xs₀ ys₀ zs₀) (arrays rx₀ ry₀ rz₀)))
 
 abbrev μ-loop : tie.MeasureT-loop
 μ-loop xs₀ ys₀ zs₀ from to n axis offset rx₀ ry₀ rz₀ p₀ b₀ db₀ i₀ xs ys zs rx ry rz p b db i = n - i
@@ -74,12 +75,12 @@ loop-again c =
     let l = c .turn .last in
     let δ : Divided = divided (v .p) (arrays (v .xs) (v .ys) (v .zs)) (arrays (v .rx) (v .ry) (v .rz)) in
     let δ′ : Divided = divided (c .turn .result) (arrays (l .0) (l .1 .0) (l .1 .1 .0)) (arrays (l .1 .1 .1 .0) (l .1 .1 .1 .1 .0) (l .1 .1 .1 .1 .1 .0)) in
-    let few = grown-two (a .to) (v .i) δ δ′ (v .b) vertex (v .db) _ (c .turn .ensures) (v .inv .1) (v .inv .2) in (
+    let few = grown-two (dividing (a .to)) (v .i) δ δ′ (v .b) vertex (v .db) _ (c .turn .ensures) (v .inv .1) (v .inv .2) in (
       omega (arith, inside .loop-test .taken),
       few .0,
       few .1,
       da,
-      still-turn (a .axis) (a .offset) (a .from) (a .to) (a .n) (v .i) (v .b) vertex (v .db) _ δ δ′ (s .pre .0) (inside .loop-test .taken) (s .pre .2) (v .inv .2) (read .get-vertex2 .ensures) (v .inv .3) da (c .turn .ensures)
+      still-turn (dividing (a .to)) (a .axis) (a .offset) (a .from) (a .n) (v .i) (v .b) vertex (v .db) _ δ δ′ (s .pre .0) (inside .loop-test .taken) (s .pre .2) (v .inv .2) (read .get-vertex2 .ensures) (v .inv .3) da (c .turn .ensures)
           ∙ v .inv .4,
     )
 
@@ -90,10 +91,10 @@ returns c =
     let s = first .before .before .before .before in
     let a = s .args in
     let δ = divided (countsOf 0 0) (arrays (now (a .xs)) (now (a .ys)) (now (a .zs))) (arrays (now (a .rx)) (now (a .ry)) (now (a .rz))) in
-    sym (still-none (a .axis) (a .offset) (a .from) (a .to) (a .n) (v .i) (v .b) _ (c .loop-test .left))
+    sym (still-none (dividing (a .to)) (a .axis) (a .offset) (a .from) (a .n) (v .i) (v .b) _ (c .loop-test .left))
     ∙ v .inv .4
-    ∙ ap (λ (b : Corner). still (a .axis) (a .offset) (a .from) (a .to) (a .n) 0 b δ) (first .get-vertex .ensures)
-    ∙ still-all (a .axis) (a .offset) (a .from) (a .to) (a .n) δ (s .pre .1)
+    ∙ ap (λ (b : Corner). still (dividing (a .to)) (a .axis) (a .offset) (a .from) (a .n) 0 b δ) (first .get-vertex .ensures)
+    ∙ still-all (dividing (a .to)) (a .axis) (a .offset) (a .from) (a .n) δ (s .pre .1)
 
 pub go-round-spec : {M : Type 1} → statement M
 go-round-spec =

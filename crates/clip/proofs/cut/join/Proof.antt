@@ -1,7 +1,8 @@
 -- `clip::cut::join` meets its contract.
 use borrow.Author.Needs.{needs}
 use native.Mathlib.Omega.{arith}
-use Rattle.clip.proofs.Rounds.{joining-one, joined}
+use Rattle.clip.proofs.Turns.{joining-one}
+use Rattle.clip.proofs.Rounds.{joined}
 use Rattle.clip.proofs.cut.join.Statement.{statement}
 use Rattle.clip.proofs.cut.join.Tie as tie
 

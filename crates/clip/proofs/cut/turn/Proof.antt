@@ -5,7 +5,8 @@ use lib.Ieee.{ofBits}
 use denote.Ref.{now}
 use Rattle.clip.specs.Cut.{toFirst, toSecond}
 use Rattle.clip.specs.Arrays.{arrays, divided}
-use Rattle.clip.proofs.Rounds.{crossed, grown-counts}
+use Rattle.clip.proofs.Turns.{crossed, grown-counts}
+use Rattle.clip.proofs.Rounds.{dividing}
 use Rattle.clip.proofs.cut.turn.Statement.{statement}
 use Rattle.clip.proofs.cut.turn.Tie as tie
 
@@ -24,7 +25,7 @@ join-requires-2 c κs = search needs
 
 join-requires-3 : tie.Need-join-requires-3
 join-requires-3 c κs =
-    let n = grown-counts _ _ _ _ _ (c .before .before .before .before .before .before .join2 .ensures) in
+    let n = grown-counts (dividing _) _ _ _ _ (c .before .before .before .before .before .before .join2 .ensures) in
     (omega arith, omega arith)
 
 returns-2 : tie.Need-returns-2
@@ -36,7 +37,7 @@ returns-2 c =
     let l = two .join2 .last in
     let m = c .join3 .last in
     crossed
-    (a .to)
+    (dividing (a .to))
     (divided (a .p) (arrays (now (a .xs)) (now (a .ys)) (now (a .zs))) (arrays (now (a .rx)) (now (a .ry)) (now (a .rz))))
     (divided (two .join2 .result) (arrays (l .0) (l .1 .0) (l .1 .1 .0)) (arrays (l .1 .1 .1 .0) (l .1 .1 .1 .1 .0) (l .1 .1 .1 .1 .1 .0)))
     (divided (c .join3 .result) (arrays (m .0) (m .1 .0) (m .1 .1 .0)) (arrays (m .1 .1 .1 .0) (m .1 .1 .1 .1 .0) (m .1 .1 .1 .1 .1 .0)))

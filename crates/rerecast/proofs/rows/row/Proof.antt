@@ -13,11 +13,12 @@ use mir.Val.{toZ, ofZ}
 use mir.ValLaws.{toZ-ofZ}
 use Rattle.grid.specs.declared.Corner.{Corner}
 use Rattle.clip.specs.declared.cut.Axis.the-variants.{X}
-use Rattle.clip.specs.Arrays.{arrays, numbersAt, polygonAt}
+use Rattle.clip.specs.Arrays.{numbersAt}
+use Rattle.clip.specs.Cell.{flatAt}
 use Rattle.clip.specs.Slices.{leastOf, greatestOf, cellOf, heldFirst, heldLast}
 use Rattle.clip.specs.Work.{firstCell, lastCell}
-use Rattle.clip.proofs.Places.{xs-of}
 use Rattle.clip.proofs.Holds.{held-le}
+use Rattle.clip.proofs.Flat.{xs-at}
 use Rattle.field.proofs.Carrying.{remains-is, remains-of}
 use Rattle.field.proofs.Cells.{all-of, row-missed, row-turns}
 use Rattle.rerecast.proofs.rows.row.Statement.{statement}
@@ -27,11 +28,11 @@ abbrev start : tie.After-cell-at2 → tie.Start
 start c = c .before .before .before .before .before .before .before .before .before .before
 
 abbrev part : tie.After-cell-at2 → List Corner
-part c = polygonAt (arrays (start c .args .xs .now) (start c .args .ys .now) (start c .args .zs .now)) 0 (start c .args .n)
+part c = flatAt (start c .args .xs .now) (start c .args .ys .now) 0 (start c .args .n)
 
 -- the part's xs are the numbers that were put together
 xs-are : (c : tie.After-cell-at2) → numbersAt (start c .args .xs .now) 0 (min (start c .args .n) 28) ≡ map (λ v. v .x) (part c)
-xs-are c = ap (λ (n : ℕ). numbersAt (start c .args .xs .now) 0 n) (all-of (start c .args .n) (omega (arith, start c .pre .0 .2))) ∙ sym (xs-of _ 0 (start c .args .n))
+xs-are c = ap (λ (n : ℕ). numbersAt (start c .args .xs .now) 0 n) (all-of (start c .args .n) (omega (arith, start c .pre .0 .2))) ∙ sym (xs-at _ _ 0 (start c .args .n))
 
 -- the first column and the last, before they are held
 first-is : (c : tie.After-cell-at2) → toZ w32 (ofZ w32 (c .before .before .cell-at .result)) ≡ firstCell (start c .args .job .frame) X (part c)

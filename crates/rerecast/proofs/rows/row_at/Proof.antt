@@ -5,9 +5,9 @@ use mathlib.Core.List.{List}
 use Prim.Native.Nat.{ℕ, _<_, _≤_}
 use native.Mathlib.Omega.{arith}
 use Rattle.grid.specs.declared.Corner.{Corner}
-use Rattle.clip.specs.Arrays.{arrays, polygonAt}
+use Rattle.clip.specs.Cell.{flatAt}
 use Rattle.clip.specs.Work.{rowEvents}
-use Rattle.clip.proofs.Cuts.{length-polygon}
+use Rattle.clip.proofs.Flat.{length-at}
 use Rattle.field.proofs.Carrying.{remains-is, remains-of}
 use Rattle.rerecast.specs.Rasterize.{Judged}
 use Rattle.rerecast.specs.declared.turns.Part.{Part}
@@ -19,7 +19,7 @@ judged : (c : tie.After-part-of) (r : Part) → c .part-of .result ≡ r → Jud
 judged c r e = subst (λ (p : Part). Judged p (c .before .before .before .before .before .before .args .d) (c .before .before .before .before .before .before .args .k)) e (c .part-of .ensures)
 
 abbrev part : tie.Start → List Corner
-part s = polygonAt (arrays (s .args .xs .now) (s .args .ys .now) (s .args .zs .now)) 0 (s .args .d .first)
+part s = flatAt (s .args .xs .now) (s .args .ys .now) 0 (s .args .d .first)
 
 part-of-requires : tie.Need-part-of-requires
 part-of-requires c κs = search needs
@@ -51,7 +51,7 @@ returns-2 : tie.Need-returns-2
 returns-2 c others f H =
     let a = c .before .before .before .before .before .before .before .before .args in
     remains-is (a .job .frame .width) (a .job .threshold) (a .job .area) (a .made)
-    (judged (c .before .before) _ (c .enum-told2 .given .1) (rowEvents (a .job .frame)) (part (c .before .before .before .before .before .before .before .before)) (length-polygon _ 0 (a .d .first))) H
+    (judged (c .before .before) _ (c .enum-told2 .given .1) (rowEvents (a .job .frame)) (part (c .before .before .before .before .before .before .before .before)) (length-at _ _ 0 (a .d .first))) H
 
 same-length : tie.Need-same-length
 same-length c = c .before .before .before .before .before .before .before .before .before .before .row .kept .0
@@ -72,7 +72,7 @@ returns-3 : tie.Need-returns-3
 returns-3 c others f H =
     let a = c .before .before .before .before .before .before .before .before .before .before .before .before .before .before .before .before .before .before .before .before .before .before .before .before .before .args in
     remains-of (a .job .frame .width) (a .job .threshold) (a .job .area) (a .made) f
-    (judged (c .before .before .before .before .before .before .before .before .before .before .before .before .before .before .before .before .before .before .before) _ (c .before .before .before .before .before .before .before .before .before .before .before .before .before .before .before .before .before .enum-told3 .given .1) .2 (rowEvents (a .job .frame)) (part (c .before .before .before .before .before .before .before .before .before .before .before .before .before .before .before .before .before .before .before .before .before .before .before .before .before)) (length-polygon _ 0 (a .d .first))) (c .before .before .before .before .before .before .before .before .before .before .row .ensures others f H)
+    (judged (c .before .before .before .before .before .before .before .before .before .before .before .before .before .before .before .before .before .before .before) _ (c .before .before .before .before .before .before .before .before .before .before .before .before .before .before .before .before .before .enum-told3 .given .1) .2 (rowEvents (a .job .frame)) (part (c .before .before .before .before .before .before .before .before .before .before .before .before .before .before .before .before .before .before .before .before .before .before .before .before .before)) (length-at _ _ 0 (a .d .first))) (c .before .before .before .before .before .before .before .before .before .before .row .ensures others f H)
 
 pub row-at-spec : {M : Type 1} → statement M
 row-at-spec =

@@ -2,6 +2,7 @@
 -- come to. No more insertions were made than the rows passed have cells.
 use borrow.Author.Needs.{needs}
 use mathlib.Core.Path.{_≡_, refl, sym, ap, _∙_}
+use mathlib.Core.Bool.{not}
 use mathlib.Core.List.{List, [], _∷_, _++_, map}
 use Prim.Native.Nat.{ℕ, suc, _+_, _*_, _-_, _<_, _≤_}
 use native.Mathlib.Omega.{arith}
@@ -15,15 +16,16 @@ use Rattle.clip.specs.declared.frame.Frame.{Frame}
 use Rattle.clip.specs.declared.cut.Axis.the-variants.{Z}
 use Rattle.clip.specs.Arrays.{Arrays, arrays, polygonAt, half, Divided, divided, divideOf}
 use Rattle.clip.specs.Slices.{edgeOf}
-use Rattle.clip.specs.Work.{Event, edgeAt, rowEvents}
+use Rattle.clip.specs.Work.{Event, andThen, edgeAt, rowEvents}
 use Rattle.clip.proofs.Places.{Long}
 use Rattle.clip.proofs.Cuts.{polygon-long, part-long}
+use Rattle.clip.proofs.Flat.{row-blind}
 use Rattle.field.specs.Slots.{slots}
 use Rattle.field.specs.Field.{Field, Holds}
 use Rattle.field.specs.Carrying.{carry}
 use Rattle.field.specs.Working.{Remains, numbered, turnEvents, turnsTo}
-use Rattle.field.proofs.Carrying.{remains-is, remains-as}
-use Rattle.field.proofs.Slicing.{turns-end, turn-length}
+use Rattle.field.proofs.Carrying.{remains-is, remains-of, remains-as}
+use Rattle.field.proofs.Slicing.{turns-turn, turns-end, turn-flat, turn-length}
 use Rattle.field.proofs.Cells.{row-length}
 use Rattle.rerecast.specs.Rasterize.{madeBy, Carries}
 use Rattle.rerecast.proofs.Rasterizing.{step-most, went-fits, turn-went, turn-stopped, Alike, again}
@@ -72,13 +74,36 @@ cut-is c =
 abbrev part : tie.After-divide Inv-loop μ-loop → List Corner
 part c = polygonAt (cut c .part) 0 (c .divide .result .first)
 
--- what the row came to
+-- the work of the row, and that of the rows behind it
+abbrev near : tie.After-divide Inv-loop μ-loop → List Event
+near c = turnEvents (c .divide .result) (rowEvents (c .before .before .before .before .before .before .before .before .before .before .before .before .before .before .before .before .before .before .before .before .args .job .frame)) (c .before .before .before .before .before .before .before .before .before .before .loop .k) (part c)
+
+abbrev more : tie.After-divide Inv-loop μ-loop → List Event
+more c =
+    turnsTo Z (edgeAt (c .before .before .before .before .before .before .before .before .before .before .before .before .before .before .before .before .before .before .before .before .args .job .frame) Z) (rowEvents (c .before .before .before .before .before .before .before .before .before .before .before .before .before .before .before .before .before .before .before .before .args .job .frame)) (c .before .before .before .before .before .before .before .before .before .before .before .before .before .before .before .before .before .before .before .before .args .last) (c .before .before .before .before .before .before .before .before .before .before .loop .k + 1)
+    (polygonAt (cut c .polygon) (half (not (c .before .before .before .before .before .before .before .before .before .before .loop .upper))) (c .divide .result .second))
+
+turns : (c : tie.After-divide Inv-loop μ-loop)
+    → turnsTo Z (edgeAt (c .before .before .before .before .before .before .before .before .before .before .before .before .before .before .before .before .before .before .before .before .args .job .frame) Z) (rowEvents (c .before .before .before .before .before .before .before .before .before .before .before .before .before .before .before .before .before .before .before .before .args .job .frame)) (c .before .before .before .before .before .before .before .before .before .before .before .before .before .before .before .before .before .before .before .before .args .last) (c .before .before .before .before .before .before .before .before .before .before .loop .k) (polygonAt (arrays (c .before .before .before .before .before .before .before .before .before .before .loop .px) (c .before .before .before .before .before .before .before .before .before .before .loop .py) (c .before .before .before .before .before .before .before .before .before .before .loop .pz)) (half (c .before .before .before .before .before .before .before .before .before .before .loop .upper)) (c .before .before .before .before .before .before .before .before .before .before .loop .rest))
+    ≡ andThen (near c) (more c)
+turns c =
+    let a = c .before .before .before .before .before .before .before .before .before .before .before .before .before .before .before .before .before .before .before .before .args in
+    let v = c .before .before .before .before .before .before .before .before .before .before .loop in
+    let f = a .job .frame in
+    turns-turn Z (edgeAt f Z) (rowEvents f) (a .last) (v .k) (v .upper) (v .rest) (arrays (v .px) (v .py) (v .pz)) (arrays (v .rx) (v .ry) (v .rz)) (cut c) (cut-is c) (v .inv .1) (v .inv .2) (v .inv .3) (c .before .before .before .before .before .before .before .before .before .loop-test .taken)
+
+-- what the row came to: a row's work does not hang on z
 came : (c : tie.After-row-at Inv-loop μ-loop) (others : List ℕ) (f : Field)
-    → Holds (c .before .before .before .before .before .before .before .before .before .before .before .before .before .before .before .before .before .before .before .before .loop .heads ++ others) (slots (c .before .before .before .before .before .before .before .before .before .before .before .before .before .before .before .before .before .before .before .before .loop .free) (c .before .before .before .before .before .before .before .before .before .before .before .before .before .before .before .before .before .before .before .before .loop .floors) (c .before .before .before .before .before .before .before .before .before .before .before .before .before .before .before .before .before .before .before .before .loop .ceilings) (c .before .before .before .before .before .before .before .before .before .before .before .before .before .before .before .before .before .before .before .before .loop .areas) (c .before .before .before .before .before .before .before .before .before .before .before .before .before .before .before .before .before .before .before .before .loop .nexts)) f
-    → Carries (c .before .before .before .before .before .before .before .before .before .before .before .before .before .before .before .before .before .before .before .before .before .before .before .before .before .before .before .before .before .before .args .job) (c .before .before .before .before .before .before .before .before .before .before .before .before .before .before .before .before .before .before .before .before .loop .count) f (turnEvents (c .before .before .before .before .before .before .before .before .before .before .divide .result) (rowEvents (c .before .before .before .before .before .before .before .before .before .before .before .before .before .before .before .before .before .before .before .before .before .before .before .before .before .before .before .before .before .before .args .job .frame)) (c .before .before .before .before .before .before .before .before .before .before .before .before .before .before .before .before .before .before .before .before .loop .k) (part (c .before .before .before .before .before .before .before .before .before .before))) (c .row-at .result)
+    → Holds (c .before .before .before .before .before .before .before .before .before .before .before .before .before .before .before .before .before .before .before .loop .heads ++ others) (slots (c .before .before .before .before .before .before .before .before .before .before .before .before .before .before .before .before .before .before .before .loop .free) (c .before .before .before .before .before .before .before .before .before .before .before .before .before .before .before .before .before .before .before .loop .floors) (c .before .before .before .before .before .before .before .before .before .before .before .before .before .before .before .before .before .before .before .loop .ceilings) (c .before .before .before .before .before .before .before .before .before .before .before .before .before .before .before .before .before .before .before .loop .areas) (c .before .before .before .before .before .before .before .before .before .before .before .before .before .before .before .before .before .before .before .loop .nexts)) f
+    → Carries (c .before .before .before .before .before .before .before .before .before .before .before .before .before .before .before .before .before .before .before .before .before .before .before .before .before .before .before .before .before .args .job) (c .before .before .before .before .before .before .before .before .before .before .before .before .before .before .before .before .before .before .before .loop .count) f (near (c .before .before .before .before .before .before .before .before .before)) (c .row-at .result)
     (c .row-at .last .0 ++ others)
     (slots (c .row-at .last .1 .0) (c .row-at .last .1 .1 .0) (c .row-at .last .1 .1 .1 .0) (c .row-at .last .1 .1 .1 .1 .0) (c .row-at .last .1 .1 .1 .1 .1 .0))
-came c others f H = c .row-at .ensures others f H
+came c others f H =
+    let a = c .before .before .before .before .before .before .before .before .before .before .before .before .before .before .before .before .before .before .before .before .before .before .before .before .before .before .before .before .before .args in
+    let v = c .before .before .before .before .before .before .before .before .before .before .before .before .before .before .before .before .before .before .before .loop in
+    let r = cut (c .before .before .before .before .before .before .before .before .before) .part in
+    let d = c .before .before .before .before .before .before .before .before .before .divide .result in
+    remains-of (a .job .frame .width) (a .job .threshold) (a .job .area) (v .count) f (turn-flat d (rowEvents (a .job .frame)) (row-blind (a .job .frame)) (v .k) (r .xs) (r .ys) (r .zs) (d .first)) (c .row-at .ensures others f H)
 
 loop-holds : tie.Need-loop-holds Inv-loop μ-loop
 loop-holds c =
@@ -103,14 +128,14 @@ divide-requires c κs = tt
 
 row-at-requires : tie.Need-row-at-requires Inv-loop μ-loop
 row-at-requires c κs =
-    let s = c .before .before .before .before .before .before .before .before .before .before .before .before .before .before .before .before .before .before .before .before .before .before .before .before .before .before .before .before .before in
-    let v = c .before .before .before .before .before .before .before .before .before .before .before .before .before .before .before .before .before .before .before .loop in
-    let k = c .before .before .before .before .before .before .before .before .before .before .before .before .before .before .before .before .before .before .loop-test .taken in
-    let cutting = c .before .before .before .before .before .before .before .before .before in
+    let s = c .before .before .before .before .before .before .before .before .before .before .before .before .before .before .before .before .before .before .before .before .before .before .before .before .before .before .before .before in
+    let v = c .before .before .before .before .before .before .before .before .before .before .before .before .before .before .before .before .before .before .loop in
+    let k = c .before .before .before .before .before .before .before .before .before .before .before .before .before .before .before .before .before .loop-test .taken in
+    let cutting = c .before .before .before .before .before .before .before .before in
     let held = s .pre .1 in
     let now = v .inv .5 (held .0) (held .1 .0) (held .1 .1) in
     let long = part-long (v .upper) (v .rest) Z _ _ _ (cut cutting) (cut-is cutting) (v .inv .3) in (
-      (again _ _ (s .pre .0 .0) (v .inv .0 .heads-as), omega (arith, k, s .pre .0 .1), omega (arith, k, v .inv .4, s .pre .0 .1, s .pre .0 .0 .sides .high), record { all-xs = long .xs-long; all-ys = long .ys-long; all-zs = long .zs-long }),
+      (again _ _ (s .pre .0 .0) (v .inv .0 .heads-as), omega (arith, k, s .pre .0 .1), omega (arith, k, v .inv .4, s .pre .0 .1, s .pre .0 .0 .sides .high), record { all-xs = long .xs-long; all-ys = long .ys-long }),
       (held .0, (now .field, now .holds)),
     )
 
@@ -121,50 +146,50 @@ enum-told : tie.Need-enum-told Inv-loop μ-loop
 enum-told c = search needs
 
 same-length : tie.Need-same-length Inv-loop μ-loop
-same-length c = c .before .before .before .before .before .before .before .before .before .before .before .before .row-at .kept .0 ∙ c .before .before .before .before .before .before .before .before .before .before .before .before .before .before .before .before .before .before .before .before .before .before .before .before .before .before .before .before .before .before .before .before .loop .inv .0 .heads-as
+same-length c = c .before .before .before .before .before .before .before .before .before .before .before .before .row-at .kept .0 ∙ c .before .before .before .before .before .before .before .before .before .before .before .before .before .before .before .before .before .before .before .before .before .before .before .before .before .before .before .before .before .before .before .loop .inv .0 .heads-as
 
 same-length-2 : tie.Need-same-length-2 Inv-loop μ-loop
-same-length-2 c = c .before .before .before .before .before .before .before .before .before .before .before .before .row-at .kept .1 .1 .0 ∙ c .before .before .before .before .before .before .before .before .before .before .before .before .before .before .before .before .before .before .before .before .before .before .before .before .before .before .before .before .before .before .before .before .loop .inv .0 .floors-as
+same-length-2 c = c .before .before .before .before .before .before .before .before .before .before .before .before .row-at .kept .1 .1 .0 ∙ c .before .before .before .before .before .before .before .before .before .before .before .before .before .before .before .before .before .before .before .before .before .before .before .before .before .before .before .before .before .before .before .loop .inv .0 .floors-as
 
 same-length-3 : tie.Need-same-length-3 Inv-loop μ-loop
-same-length-3 c = c .before .before .before .before .before .before .before .before .before .before .before .before .row-at .kept .1 .1 .1 .0 ∙ c .before .before .before .before .before .before .before .before .before .before .before .before .before .before .before .before .before .before .before .before .before .before .before .before .before .before .before .before .before .before .before .before .loop .inv .0 .ceilings-as
+same-length-3 c = c .before .before .before .before .before .before .before .before .before .before .before .before .row-at .kept .1 .1 .1 .0 ∙ c .before .before .before .before .before .before .before .before .before .before .before .before .before .before .before .before .before .before .before .before .before .before .before .before .before .before .before .before .before .before .before .loop .inv .0 .ceilings-as
 
 same-length-4 : tie.Need-same-length-4 Inv-loop μ-loop
-same-length-4 c = c .before .before .before .before .before .before .before .before .before .before .before .before .row-at .kept .1 .1 .1 .1 .0 ∙ c .before .before .before .before .before .before .before .before .before .before .before .before .before .before .before .before .before .before .before .before .before .before .before .before .before .before .before .before .before .before .before .before .loop .inv .0 .areas-as
+same-length-4 c = c .before .before .before .before .before .before .before .before .before .before .before .before .row-at .kept .1 .1 .1 .1 .0 ∙ c .before .before .before .before .before .before .before .before .before .before .before .before .before .before .before .before .before .before .before .before .before .before .before .before .before .before .before .before .before .before .before .loop .inv .0 .areas-as
 
 same-length-5 : tie.Need-same-length-5 Inv-loop μ-loop
-same-length-5 c = c .before .before .before .before .before .before .before .before .before .before .before .before .row-at .kept .1 .1 .1 .1 .1 .0 ∙ c .before .before .before .before .before .before .before .before .before .before .before .before .before .before .before .before .before .before .before .before .before .before .before .before .before .before .before .before .before .before .before .before .loop .inv .0 .nexts-as
+same-length-5 c = c .before .before .before .before .before .before .before .before .before .before .before .before .row-at .kept .1 .1 .1 .1 .1 .0 ∙ c .before .before .before .before .before .before .before .before .before .before .before .before .before .before .before .before .before .before .before .before .before .before .before .before .before .before .before .before .before .before .before .loop .inv .0 .nexts-as
 
 returns : tie.Need-returns Inv-loop μ-loop
 returns c others f H =
     let done = c .before .before .before .before .before .before .before .before .before .before .before .before in
-    let v = done .before .before .before .before .before .before .before .before .before .before .before .before .before .before .before .before .before .before .before .before .loop in
-    let a = done .before .before .before .before .before .before .before .before .before .before .before .before .before .before .before .before .before .before .before .before .before .before .before .before .before .before .before .before .before .before .args in
+    let v = done .before .before .before .before .before .before .before .before .before .before .before .before .before .before .before .before .before .before .before .loop in
+    let a = done .before .before .before .before .before .before .before .before .before .before .before .before .before .before .before .before .before .before .before .before .before .before .before .before .before .before .before .before .before .args in
     let now = v .inv .5 others f H in
-    turn-stopped (a .job) Z (edgeAt (a .job .frame) Z) (rowEvents (a .job .frame)) (a .last) (v .k) (v .upper) (v .rest) (arrays (v .px) (v .py) (v .pz)) (arrays (v .rx) (v .ry) (v .rz)) (cut (done .before .before .before .before .before .before .before .before .before .before)) (cut-is (done .before .before .before .before .before .before .before .before .before .before)) (v .inv .1) (v .inv .2) (v .inv .3) (done .before .before .before .before .before .before .before .before .before .before .before .before .before .before .before .before .before .before .before .loop-test .taken) (v .count) now
+    turn-stopped (a .job) (near (done .before .before .before .before .before .before .before .before .before)) (more (done .before .before .before .before .before .before .before .before .before)) (turns (done .before .before .before .before .before .before .before .before .before)) (v .count) now
     (done .row-at .result) _ _ (c .enum-told .given .1) (came done others (now .field) (now .holds))
 
 add-k : tie.Need-add-k Inv-loop μ-loop
-add-k c = record { fits = omega (arith, c .before .before .before .before .before .before .before .before .before .before .before .before .before .before .before .before .before .before .before .before .before .before .before .before .before .before .before .before .before .before .before .before .loop-test .taken, c .before .before .before .before .before .before .before .before .before .before .before .before .before .before .before .before .before .before .before .before .before .before .before .before .before .before .before .before .before .before .before .before .before .before .before .before .before .before .before .before .before .before .before .pre .0 .1, c .before .before .before .before .before .before .before .before .before .before .before .before .before .before .before .before .before .before .before .before .before .before .before .before .before .before .before .before .before .before .before .before .before .before .before .before .before .before .before .before .before .before .before .pre .0 .0 .sides .high) }
+add-k c = record { fits = omega (arith, c .before .before .before .before .before .before .before .before .before .before .before .before .before .before .before .before .before .before .before .before .before .before .before .before .before .before .before .before .before .before .before .loop-test .taken, c .before .before .before .before .before .before .before .before .before .before .before .before .before .before .before .before .before .before .before .before .before .before .before .before .before .before .before .before .before .before .before .before .before .before .before .before .before .before .before .before .before .before .pre .0 .1, c .before .before .before .before .before .before .before .before .before .before .before .before .before .before .before .before .before .before .before .before .before .before .before .before .before .before .before .before .before .before .before .before .before .before .before .before .before .before .before .before .before .before .pre .0 .0 .sides .high) }
 
 loop-less : tie.Need-loop-less Inv-loop μ-loop
-loop-less c = omega (arith, c .before .before .before .before .before .before .before .before .before .before .before .before .before .before .before .before .before .before .before .before .before .before .before .before .before .before .before .before .before .before .before .before .loop-test .taken)
+loop-less c = omega (arith, c .before .before .before .before .before .before .before .before .before .before .before .before .before .before .before .before .before .before .before .before .before .before .before .before .before .before .before .before .before .before .before .loop-test .taken)
 
 loop-again : tie.Need-loop-again Inv-loop μ-loop
 loop-again c =
     let done = c .before .before .before .before .before .before .before .before .before .before .before .before .before in
-    let v = done .before .before .before .before .before .before .before .before .before .before .before .before .before .before .before .before .before .before .before .before .loop in
-    let s = done .before .before .before .before .before .before .before .before .before .before .before .before .before .before .before .before .before .before .before .before .before .before .before .before .before .before .before .before .before .before in
+    let v = done .before .before .before .before .before .before .before .before .before .before .before .before .before .before .before .before .before .before .before .loop in
+    let s = done .before .before .before .before .before .before .before .before .before .before .before .before .before .before .before .before .before .before .before .before .before .before .before .before .before .before .before .before .before in
     let a = s .args in
     let f = a .job .frame in
     let kept = done .row-at .kept in
-    let cutting = done .before .before .before .before .before .before .before .before .before .before in
+    let cutting = done .before .before .before .before .before .before .before .before .before in
     let told = c .before .step .given .1 in
     let held = s .pre .1 in
     let now = v .inv .5 (held .0) (held .1 .0) (held .1 .1) in
     let here = came done (held .0) (now .field) (now .holds) in
     let fits = went-fits (a .job) (v .count) (now .field) (cutting .divide .result) (rowEvents f) (v .k) (part cutting) (done .row-at .result) _ told here in
-    let most = step-most (a .job) (v .count) (now .field) (turnEvents (cutting .divide .result) (rowEvents f) (v .k) (part cutting)) (done .row-at .result) here in (
+    let most = step-most (a .job) (v .count) (now .field) (near cutting) (done .row-at .result) here in (
       record {
         heads-as = kept .0 ∙ v .inv .0 .heads-as;
         floors-as = kept .1 .1 .0 ∙ v .inv .0 .floors-as;
@@ -178,7 +203,7 @@ loop-again c =
       omega (arith, most, ap madeBy told, turn-length 4097 (omega arith) (rowEvents f) (λ z row. row-most f z row (s .pre .0 .0 .sides .some-wide) (s .pre .0 .0 .sides .wide)) (cutting .divide .result) (v .k) (part cutting), v .inv .4),
       λ others g H.
           let at = v .inv .5 others g H in
-          turn-went (a .job) Z (edgeAt f Z) (rowEvents f) (a .last) (v .k) (v .upper) (v .rest) (arrays (v .px) (v .py) (v .pz)) (arrays (v .rx) (v .ry) (v .rz)) (cut cutting) (cut-is cutting) (v .inv .1) (v .inv .2) (v .inv .3) (done .before .before .before .before .before .before .before .before .before .before .before .before .before .before .before .before .before .before .before .loop-test .taken) (v .count) at
+          turn-went (a .job) (near cutting) (more cutting) (turns cutting) (v .count) at
           (done .row-at .result) _ told (came done others (at .field) (at .holds)),
     )
 
