@@ -2,14 +2,14 @@
 use mathlib.Core.Path.{_≡_, refl, sym, ap, _∙_}
 use mathlib.Core.Logic.{_≢_}
 use mathlib.Core.List.{List, [], _∷_}
-use Prim.Native.Nat.{ℕ, zero, suc, _+_, _<_, _≤_}
+use Prim.Native.Nat.{ℕ, zero, suc, _+_, _-_, _<_, _≤_}
 use native.Mathlib.Omega.{arith}
 use native.Mathlib.Nat.{le-of-suc-le-suc, not-suc-le-zero}
 use native.Mathlib.Decide.{ℕ-discrete}
 use lib.ListN.{length, getD, set, length-set}
 use lib.Seq.{getD-set-same, getD-set-other}
 use Rattle.field.specs.Slots.{none, Run, same, times}
-use Rattle.field.specs.Marks.{Flags, unmarked, Free, Marked, Broken, Climbs}
+use Rattle.field.specs.Marks.{Flags, unmarked, Free, Marked, Broken, Climbs, Any, InTurn}
 use Rattle.field.proofs.Basics.{by-dec}
 use Rattle.field.proofs.Counting.{same-refl, same-other, same-eq}
 
@@ -139,3 +139,57 @@ module _ (fl ce : List ℕ) {nx mk₀ : List ℕ} {head : ℕ} {Fair₀ : List �
         let c : ceiling ≡ getD ce at 0 = rw ei at ec in
         let e : ceiling + 1 ≡ suc (getD ce at 0) = omega arith in
         rw (ei, e) (marking-step p (Climbs fl ce (suc (getD ce at 0))) there l z (λ ss a. a .2) (λ ss a. (omega arith, omega arith, a)))
+
+-- ---- free slots that follow one another, marked in turn
+
+module _ {nx mk : List ℕ} {from : ℕ} where
+  turn-up : {to : ℕ} {mk′ : List ℕ} → InTurn nx mk from to mk′ → from ≤ to
+  turn-up InTurn.start = omega arith
+  turn-up (InTurn.then t l e z) = omega (arith, turn-up t)
+
+  pub turn-size : {to : ℕ} {mk′ : List ℕ} → InTurn nx mk from to mk′ → length mk′ ≡ length mk
+  turn-size InTurn.start = refl
+  turn-size (InTurn.then {to = to} {marks′ = mk′} t l e z) = length-set mk′ to 1 ∙ turn-size t
+
+  turn-there : {to : ℕ} {mk′ : List ℕ} → InTurn nx mk from to mk′ → length nx ≤ 1048576 → from ≢ none → to ≢ none
+  turn-there InTurn.start few there = there
+  turn-there (InTurn.then t l e z) few there = λ k. omega arith
+
+  -- as many turns of the loop
+  turn-marking : {mk₀ : List ℕ} {head n to : ℕ} {mk′ : List ℕ} → Marking nx mk₀ head Any mk from n Any → InTurn nx mk from to mk′ → Marking nx mk₀ head Any mk′ to (n + (to - from)) Any
+  turn-marking {n = n} p InTurn.start =
+      let m : n + (from - from) ≡ n = omega arith in
+      rw m p
+  turn-marking {n = n} p (InTurn.then {to = to} {marks′ = mk′} t l e z) =
+      let q = turn-marking p t in
+      let m : n + (to - from) + 1 ≡ n + (to + 1 - from) = omega (arith, turn-up t) in
+      rw (e, m) at (marking-step q Any (λ k. omega (arith, q .few)) l z (λ ss f. f) (λ ss f. f))
+
+-- the tests and the turn as the code has them, which goes on from slot `to`
+module _ {nx mk₀ : List ℕ} {head : ℕ} {mk : List ℕ} {at n : ℕ} (p : Marking nx mk₀ head Any mk at n Any) (there : at ≢ none) {from : ℕ} (ea : from ≡ at) {to : ℕ} {mk′ : List ℕ} (t : InTurn nx mk from to mk′) where
+  turned : Marking nx mk₀ head Any mk′ to (n + (to - from)) Any
+  turned = turn-marking (rw ea p) t
+
+  still-there : to ≢ none
+  still-there = turn-there t (p .few) (rw ea there)
+
+  pub run-out : length nx ≤ to → Broken nx mk₀ head Any
+  run-out = marking-out turned still-there
+
+  pub run-twice : getD mk′ to 0 ≢ 0 → Broken nx mk₀ head Any
+  run-twice = marking-twice turned still-there
+
+  pub run-sizes : (length mk′ ≡ length mk₀) × (length mk′ ≡ length nx)
+  run-sizes = (turned .size, turned .size ∙ p .size₀)
+
+  pub run-room : (from ≤ to) × (n + (to - from) ≤ 1048576)
+  run-room = (turn-up t, marking-room turned)
+
+  module _ (l : to < length nx) (z : getD mk′ to 0 ≡ 0) where
+    pub run-step : Marking nx mk₀ head Any (set mk′ to 1) (getD nx to 0) (n + (to - from + 1)) Any
+    run-step =
+        let m : n + (to - from) + 1 ≡ n + (to - from + 1) = omega arith in
+        rw m at (marking-step turned Any still-there l z (λ ss f. f) (λ ss f. f))
+
+    pub run-less : unmarked (set mk′ to 1) < unmarked mk
+    run-less = omega (arith, p .count, run-step .count)

@@ -2,7 +2,7 @@
 use mathlib.Core.Path.{_≡_}
 use mathlib.Core.List.{List, [], _∷_, map}
 use Prim.Native.Nat.{ℕ, _+_, _<_, _≤_}
-use lib.ListN.{length, getD}
+use lib.ListN.{length, getD, set}
 use Rattle.field.specs.Spans.{Ascends}
 use Rattle.field.specs.Slots.{none, contents, rangeAt, Run, same, times, timesIn}
 
@@ -40,6 +40,11 @@ Climbs floors ceilings b ss = Ascends b (map (rangeAt (contents floors ceilings 
 -- the free chain may hold anything
 abbrev pub Any : List ℕ → Type 0
 Any ss = Unit {0}
+
+-- The slots from `from` on and before `to` are marked in turn, which leaves the marks `marks′`: each was unmarked, and its next is the slot after it.
+pub data InTurn (nexts marks : List ℕ) (from : ℕ) : ℕ → List ℕ → Type 0 where
+  start : InTurn nexts marks from from marks
+  then : {to : ℕ} {marks′ : List ℕ} → InTurn nexts marks from to marks′ → to < length nexts → getD nexts to 0 ≡ to + 1 → getD marks′ to 0 ≡ 0 → InTurn nexts marks from (to + 1) (set marks′ to 1)
 
 -- columns that are chains, ascend, and have no slot twice
 pub record Columns (heads floors ceilings nexts : List ℕ) (n : ℕ) (cs : List (List ℕ)) : Type 0 where

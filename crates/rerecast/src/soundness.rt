@@ -10,7 +10,7 @@ ghost use lib.ListN.{length, replicate};
 ghost use Rattle.field.specs.Slots.{slots};
 ghost use Rattle.field.specs.Field.{Held};
 ghost use Rattle.field.specs.Inner.{Says};
-ghost use Rattle.field.specs.Marks.{Flags, unmarked, Climbs, Any};
+ghost use Rattle.field.specs.Marks.{Flags, unmarked, Climbs, Any, InTurn};
 ghost use Rattle.rerecast.specs.Inner.{Marks, MarksAll};
 
 // How a walk along chains went.
@@ -68,6 +68,26 @@ fn mark_column(
     Tally::Marked(n)
 }
 
+// Marks the slots from `from` on whose next is the slot after them, up to one that is marked already or has another next, and answers where that is. A
+// fresh field's free slots follow one another: walked so, no step waits for the next that it loads.
+fn mark_run(nexts: &[u32], marks: &mut [u8], from: usize) -> usize
+    requires { ⌜ (length (now marks) ≡ length (now nexts)) × (length (now nexts) ≤ 1048576) ⌝ }
+    ensures { λ r. ⌜ InTurn (now (nexts .entry)) (now (marks .entry)) from r (now (marks .exit)) ⌝ }
+{
+    let mut i = from;
+    while i < nexts.len() {
+        if nexts[i] != (i + 1) as u32 {
+            return i;
+        }
+        if marks[i] != 0 {
+            return i;
+        }
+        marks[i] = 1;
+        i += 1;
+    }
+    i
+}
+
 // Marks the slots of the free chain. `seen` slots are marked already.
 fn mark_free(nexts: &[u32], marks: &mut [u8], head: u32, seen: usize) -> Tally
     requires { ⌜ (length (now marks) ≡ length (now nexts)) × (length (now nexts) ≤ 1048576) ⌝ }
@@ -77,7 +97,8 @@ fn mark_free(nexts: &[u32], marks: &mut [u8], head: u32, seen: usize) -> Tally
     let mut at = head;
     let mut n = seen;
     while at != NONE {
-        let i = index(at);
+        let from = index(at);
+        let i = mark_run(nexts, marks, from);
         if i >= nexts.len() {
             return Tally::Broken;
         }
@@ -85,7 +106,7 @@ fn mark_free(nexts: &[u32], marks: &mut [u8], head: u32, seen: usize) -> Tally
             return Tally::Broken;
         }
         marks[i] = 1;
-        n += 1;
+        n += i - from + 1;
         at = nexts[i];
     }
     Tally::Marked(n)

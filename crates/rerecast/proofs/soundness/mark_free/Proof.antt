@@ -1,9 +1,10 @@
 -- `mark_free` meets its contract. The loop's invariant: what is left of the chain is one of unmarked slots exactly if the whole is. The measure is how many
 -- slots are not marked.
+use mathlib.Core.Path.{_∙_}
 use native.Mathlib.Omega.{arith}
 use borrow.Author.Needs.{needs}
 use Rattle.field.specs.Marks.{unmarked, Any}
-use Rattle.field.proofs.Marking.{Marking, marking-start, marking-step, marking-less, marking-room, marking-out, marking-twice, marking-end}
+use Rattle.field.proofs.Marking.{Marking, marking-start, run-out, run-twice, run-sizes, run-room, run-step, run-less, marking-end}
 use Rattle.rerecast.proofs.soundness.mark_free.Statement.{statement}
 use Rattle.rerecast.proofs.soundness.mark_free.Tie as tie
 
@@ -19,38 +20,47 @@ loop-holds c = let a = c .before .before .args in let p = c .before .before .pre
 index-requires : tie.Need-index-requires Inv-loop μ-loop
 index-requires c κs = search needs
 
+mark-run-requires : tie.Need-mark-run-requires Inv-loop μ-loop
+mark-run-requires c κs = let p = c .before .before .before .loop .inv in (p .size ∙ p .size₀, p .few)
+
 same-length : tie.Need-same-length Inv-loop μ-loop
-same-length c = c .before .before .before .loop .inv .size
+same-length c = run-sizes (c .before .before .before .before .before .before .before .loop .inv) (c .before .before .before .before .before .before .loop-test .taken) (c .before .before .before .before .before .index .ensures) (c .before .before .before .mark-run .ensures) .0
 
 returns : tie.Need-returns Inv-loop μ-loop
-returns c = marking-out (c .before .before .before .loop .inv) (c .before .before .loop-test .taken) (rw (c .before .index .ensures) at (c .if1 .taken))
+returns c = run-out (c .before .before .before .before .before .before .before .loop .inv) (c .before .before .before .before .before .before .loop-test .taken) (c .before .before .before .before .before .index .ensures) (c .before .before .before .mark-run .ensures) (c .if1 .taken)
 
 slice-read-if2 : tie.Need-slice-read-if2 Inv-loop μ-loop
-slice-read-if2 c = omega (arith, c .before .if1 .left, c .before .before .before .before .loop .inv .size, c .before .before .before .before .loop .inv .size₀)
+slice-read-if2 c = omega (arith, c .before .if1 .left, run-sizes (c .before .before .before .before .before .before .before .before .loop .inv) (c .before .before .before .before .before .before .before .loop-test .taken) (c .before .before .before .before .before .before .index .ensures) (c .before .before .before .before .mark-run .ensures))
 
 same-length-2 : tie.Need-same-length-2 Inv-loop μ-loop
-same-length-2 c = c .before .before .before .before .before .loop .inv .size
+same-length-2 c = run-sizes (c .before .before .before .before .before .before .before .before .before .loop .inv) (c .before .before .before .before .before .before .before .before .loop-test .taken) (c .before .before .before .before .before .before .before .index .ensures) (c .before .before .before .before .before .mark-run .ensures) .0
 
 returns-2 : tie.Need-returns-2 Inv-loop μ-loop
-returns-2 c = marking-twice (c .before .before .before .before .before .loop .inv) (c .before .before .before .before .loop-test .taken) (rw (c .before .before .before .index .ensures) at (c .if2 .taken))
+returns-2 c = run-twice (c .before .before .before .before .before .before .before .before .before .loop .inv) (c .before .before .before .before .before .before .before .before .loop-test .taken) (c .before .before .before .before .before .before .before .index .ensures) (c .before .before .before .before .before .mark-run .ensures) (c .if2 .taken)
 
 slice-write-marks : tie.Need-slice-write-marks Inv-loop μ-loop
-slice-write-marks c = omega (arith, c .before .before .if1 .left, c .before .before .before .before .before .loop .inv .size, c .before .before .before .before .before .loop .inv .size₀)
+slice-write-marks c = omega (arith, c .before .before .if1 .left, run-sizes (c .before .before .before .before .before .before .before .before .before .loop .inv) (c .before .before .before .before .before .before .before .before .loop-test .taken) (c .before .before .before .before .before .before .before .index .ensures) (c .before .before .before .before .before .mark-run .ensures))
+
+sub-n : tie.Need-sub-n Inv-loop μ-loop
+sub-n c = omega (arith, run-room (c .before .before .before .before .before .before .before .before .before .loop .inv) (c .before .before .before .before .before .before .before .before .loop-test .taken) (c .before .before .before .before .before .before .before .index .ensures) (c .before .before .before .before .before .mark-run .ensures))
 
 add-n : tie.Need-add-n Inv-loop μ-loop
-add-n c = omega (arith, marking-room (c .before .before .before .before .before .loop .inv))
+add-n c = omega (arith, run-room (c .before .before .before .before .before .before .before .before .before .loop .inv) (c .before .before .before .before .before .before .before .before .loop-test .taken) (c .before .before .before .before .before .before .before .index .ensures) (c .before .before .before .before .before .mark-run .ensures))
+
+add-n-2 : tie.Need-add-n-2 Inv-loop μ-loop
+add-n-2 c = omega (arith, run-room (c .before .before .before .before .before .before .before .before .before .loop .inv) (c .before .before .before .before .before .before .before .before .loop-test .taken) (c .before .before .before .before .before .before .before .index .ensures) (c .before .before .before .before .before .mark-run .ensures))
 
 mul-at : tie.Need-mul-at Inv-loop μ-loop
-mul-at c = omega (arith, c .before .before .if1 .left, c .before .before .before .before .before .loop .inv .few)
+mul-at c = omega (arith, c .before .before .if1 .left, c .before .before .before .before .before .before .before .before .before .loop .inv .few)
 
 shared-slice-read-at : tie.Need-shared-slice-read-at Inv-loop μ-loop
 shared-slice-read-at c = omega (arith, c .before .before .before .if1 .left)
 
 loop-less : tie.Need-loop-less Inv-loop μ-loop
-loop-less c = let i = c .before .before .before .before .index .ensures in rw i (marking-less (c .before .before .before .before .before .before .loop .inv) (rw i at (c .before .before .before .if1 .left)) (rw i at (c .before .if2 .left)))
+loop-less c = run-less (c .before .before .before .before .before .before .before .before .before .before .loop .inv) (c .before .before .before .before .before .before .before .before .before .loop-test .taken) (c .before .before .before .before .before .before .before .before .index .ensures) (c .before .before .before .before .before .before .mark-run .ensures) (c .before .before .before .if1 .left) (c .before .if2 .left)
 
 loop-again : tie.Need-loop-again Inv-loop μ-loop
-loop-again c = let i = c .before .before .before .before .index .ensures in rw i (marking-step (c .before .before .before .before .before .before .loop .inv) Any (c .before .before .before .before .before .loop-test .taken) (rw i at (c .before .before .before .if1 .left)) (rw i at (c .before .if2 .left)) (λ ss f. f) (λ ss f. f))
+loop-again c = run-step (c .before .before .before .before .before .before .before .before .before .before .loop .inv) (c .before .before .before .before .before .before .before .before .before .loop-test .taken) (c .before .before .before .before .before .before .before .before .index .ensures) (c .before .before .before .before .before .before .mark-run .ensures) (c .before .before .before .if1 .left) (c .before .if2 .left)
 
 same-length-3 : tie.Need-same-length-3 Inv-loop μ-loop
 same-length-3 c = c .before .loop .inv .size
@@ -59,4 +69,4 @@ returns-3 : tie.Need-returns-3 Inv-loop μ-loop
 returns-3 c = marking-end (c .before .loop .inv) tt (c .loop-test .left)
 
 pub mark-free-spec : {M : Type 1} → statement M
-mark-free-spec = tie.close (tie.spec Inv-loop μ-loop loop-holds index-requires same-length returns slice-read-if2 same-length-2 returns-2 slice-write-marks add-n mul-at shared-slice-read-at loop-less loop-again same-length-3 returns-3)
+mark-free-spec = tie.close (tie.spec Inv-loop μ-loop loop-holds index-requires mark-run-requires same-length returns slice-read-if2 same-length-2 returns-2 slice-write-marks sub-n add-n add-n-2 mul-at shared-slice-read-at loop-less loop-again same-length-3 returns-3)
