@@ -1,6 +1,6 @@
 -- Two answers that say the same are the same, and each reader has one outcome.
 use mathlib.Core.Path.{_≡_, refl, sym, ap, _∙_}
-use mathlib.Core.Bool.{cond}
+use mathlib.Core.Bool.{true, cond}
 use mathlib.Core.List.{List, [], _∷_}
 use Prim.Native.Nat.{ℕ, _<_, _≤_}
 use lib.Dec.{eqb}
@@ -9,6 +9,7 @@ use Rattle.replies.specs.Said.{Said, Value, whole, real, just}
 use Rattle.replies.proofs.Laws.{One, asks-one}
 use Rattle.grid.specs.declared.Grid.{Grid}
 use Rattle.grid.specs.Grid.{width, height, columns, gridSays}
+use Rattle.grid.specs.Directions.{stays}
 use Rattle.compact_cell.specs.Cell.{cellOf}
 use Rattle.compact_reader.specs.declared.Refusal.{Refusal}
 use Rattle.compact_reader.specs.declared.Refusal.the-variants as refusal
@@ -17,7 +18,7 @@ use Rattle.compact_reader.specs.declared.CellAt.the-variants as cellAt
 use Rattle.compact_reader.specs.declared.ConIndices.{ConIndices}
 use Rattle.compact_reader.specs.declared.ConIndices.the-variants as conIndices
 use Rattle.compact_reader.specs.Answer.{saidOfCellAt, saidOfConIndices}
-use Rattle.compact_reader.specs.Reading.{Reads, CellAtSays, Stays, StepSays, ConIndicesSays}
+use Rattle.compact_reader.specs.Reading.{Reads, CellAtSays, StepSays, ConIndicesSays}
 
 -- ---- an answer can be read back from its number and its values
 
@@ -103,7 +104,7 @@ pub cell-at-one : (g : Grid) (indices counts : List ℕ) (x z : ℕ) → One (Ce
 cell-at-one g indices counts x z = reads-one g ((columns g ≤ length indices) × (columns g ≤ length counts)) x z _ (same-as _)
 
 step-one : (w h : ℕ) (indices : List ℕ) (x z d con : ℕ) → One (StepSays w h indices x z d con)
-step-one w h indices x z d con = asks-one ((d ≤ 3) × (con ≤ 62)) (just 13) _ (asks-one (Stays w h d x z) (just 8) _ (same-as _))
+step-one w h indices x z d con = asks-one ((d ≤ 3) × (con ≤ 62)) (just 13) _ (asks-one (stays w h d x z ≡ true) (just 8) _ (same-as _))
 
 pub con-indices-one : (g : Grid) (indices : List ℕ) (x z d con : ℕ) → One (ConIndicesSays g indices x z d con)
 con-indices-one g indices x z d con = reads-one g (columns g ≤ length indices) x z _ (step-one (width g) (height g) indices x z d con)

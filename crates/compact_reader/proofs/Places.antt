@@ -1,10 +1,9 @@
--- What the readers' functions need: a place on the grid has a column, the shared tests lead into each reader's own, and a step stays or leaves.
+-- What the readers' functions need: the shared tests lead into each reader's own.
 use mathlib.Core.Path.{_≡_}
 use mathlib.Core.Logic.{inl, inr}
 use mathlib.Core.List.{List}
 use Prim.Native.Nat.{ℕ, _+_, _*_, _<_, _≤_, min}
 use native.Mathlib.Omega.{arith}
-use native.Mathlib.Nat.{mul-comm, mul-le-mul-right, suc-mul}
 use lib.ListN.{length, getD}
 use Rattle.replies.specs.Said.{Said}
 use Rattle.grid.specs.declared.Grid.{Grid}
@@ -15,9 +14,6 @@ use Rattle.compact_reader.specs.declared.Locus.the-variants.{On, Off}
 use Rattle.compact_reader.specs.declared.Refusal.{Refusal}
 use Rattle.compact_reader.specs.Answer.{cellSaid, saidOfRefusal}
 use Rattle.compact_reader.specs.Reading.{Reads, CellAtSays, StepSays, ConIndicesSays, Stands, Locates, LocatesIn}
-
-pub cell-below : (x z w h : ℕ) → x < w → z < h → x + z * w < w * h
-cell-below x z w h p q = omega (arith, suc-mul z w, mul-le-mul-right w q, mul-comm w h)
 
 -- ---- the shared tests
 

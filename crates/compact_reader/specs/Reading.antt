@@ -1,11 +1,13 @@
 -- What the readers of a compact result answer. They only read, so a call is what it says.
 use mathlib.Core.Path.{_≡_}
+use mathlib.Core.Bool.{true}
 use mathlib.Core.List.{List}
-use Prim.Native.Nat.{ℕ, zero, suc, _+_, _-_, _*_, _<_, _≤_}
+use Prim.Native.Nat.{ℕ, _+_, _*_, _<_, _≤_}
 use lib.ListN.{length, getD}
 use Rattle.replies.specs.Said.{Said, just, Asks}
 use Rattle.grid.specs.declared.Grid.{Grid}
 use Rattle.grid.specs.Grid.{width, height, columns, gridSays}
+use Rattle.grid.specs.Directions.{stepX, stepZ, stays}
 use Rattle.compact_reader.specs.declared.Locus.{Locus}
 use Rattle.compact_reader.specs.declared.Locus.the-variants.{On, Off}
 use Rattle.compact_reader.specs.Answer.{cellSaid, neighbourSaid, saidOfRefusal}
@@ -28,32 +30,12 @@ CellAtSays g indices counts x z =
 
 -- ---- a neighbour
 
--- where a step leads: in direction 0 x falls by one, in 1 z rises, in 2 x rises, in 3 z falls
-abbrev pub stepX : ℕ → ℕ → ℕ
-stepX zero x = x - 1
-stepX (suc zero) x = x
-stepX (suc (suc zero)) x = x + 1
-stepX (suc (suc (suc d))) x = x
-
-abbrev pub stepZ : ℕ → ℕ → ℕ
-stepZ zero z = z
-stepZ (suc zero) z = z + 1
-stepZ (suc (suc zero)) z = z
-stepZ (suc (suc (suc d))) z = z - 1
-
--- it does not leave a grid of w × h
-abbrev pub Stays : ℕ → ℕ → ℕ → ℕ → ℕ → Type 0
-Stays w h zero x z = 0 < x
-Stays w h (suc zero) x z = z + 1 < h
-Stays w h (suc (suc zero)) x z = x + 1 < w
-Stays w h (suc (suc (suc d))) x z = 0 < z
-
 -- past the tests, on a grid of w × h: 13 for a direction above 3 or a layer above 62, then 8 for a step off the grid; else the neighbour's column, and
 -- its span's number: the index of its cell and the layer
 abbrev pub StepSays : ℕ → ℕ → List ℕ → ℕ → ℕ → ℕ → ℕ → Said → Type 0
 StepSays w h indices x z d con =
     Asks ((d ≤ 3) × (con ≤ 62)) (just 13)
-    (Asks (Stays w h d x z) (just 8)
+    (Asks (stays w h d x z ≡ true) (just 8)
     (λ o. o ≡ neighbourSaid (stepX d x) (stepZ d z) (getD indices (stepX d x + stepZ d z * w) 0 + con)))
 
 abbrev pub ConIndicesSays : Grid → List ℕ → ℕ → ℕ → ℕ → ℕ → Said → Type 0

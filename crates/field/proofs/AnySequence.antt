@@ -10,6 +10,7 @@ use lib.ListN.{length, take}
 use Rattle.replies.specs.Said.{Said, just, Asks}
 use Rattle.grid.specs.declared.Grid.{Grid}
 use Rattle.grid.specs.Grid.{width, height, columns}
+use Rattle.grid.proofs.Places.{cell-below}
 use Rattle.field.specs.declared.Span.{Span}
 use Rattle.field.specs.Spans.{Range, range}
 use Rattle.field.specs.Field.{Field, ranges, Holds, insert}
@@ -21,7 +22,6 @@ use Rattle.field.proofs.Basics.{true-false, not-true-false}
 use Rattle.field.proofs.Unique.{field-fixed}
 use Rattle.field.proofs.Refusal.{refused-exactly}
 use Rattle.field.proofs.Order.{covers-lists, lists-fixed}
-use Rattle.field.proofs.Growing.{cell-below}
 use Rattle.field.proofs.Standing.{Standing, first-long, admitted, history-stands}
 
 -- The store holds a sound field. A column of it lists from the lowest up, and without repeats, the stretches of the spans that it accepted, and nothing else.

@@ -11,13 +11,13 @@ use native.Mathlib.Decide.{decLt}
 use borrow.Author.Tests.{lt-ltb, le-ltb, ltb-true, eqb-true, eqb-false}
 use lib.ListN.{getD}
 use lib.Dec.{ltb, eqb}
+use Rattle.grid.proofs.Places.{cell-below}
 use Rattle.field.specs.Slots.{none}
 use Rattle.field.specs.Stretches.{In}
 use Rattle.field.specs.Inner.{Says}
 use Rattle.field.specs.Beside.{besideAt, beside}
 use Rattle.field.specs.FilterCode.{Rim, around}
 use Rattle.field.proofs.Basics.{by-dec, by-test, says-if}
-use Rattle.field.proofs.Growing.{cell-below}
 
 -- ---- a column's number and its place
 

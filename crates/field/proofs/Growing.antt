@@ -5,13 +5,13 @@ use mathlib.Core.Bool.{Bool, true, false, cond}
 use mathlib.Core.List.{List, [], _∷_, _++_, map}
 use Prim.Native.Nat.{ℕ, zero, suc, _+_, _*_, _<_, _≤_}
 use native.Mathlib.Omega.{arith}
-use native.Mathlib.Nat.{mul-le-mul-right, suc-mul, mul-comm}
 use native.Mathlib.Decide.{ℕ-discrete}
 use borrow.Author.Tests.{eq-eqb, ne-eqb}
 use lib.ListN.{length}
 use lib.Dec.{eqb}
 use Rattle.clip.specs.Work.{Event, insert as offer, stop}
 use Rattle.clip.proofs.Works.{Proper}
+use Rattle.grid.proofs.Places.{cell-below}
 use Rattle.field.specs.declared.Span.{Span}
 use Rattle.field.specs.Spans.{range, insertColumn}
 use Rattle.field.specs.Field.{Field, columnAt, spans, ranges, Inserted, insert}
@@ -34,10 +34,6 @@ pub record Grown (n N : ℕ) (A : ℕ → List Span) (f : Field) : Type 0 where
 -- the same spans in other words
 same : {n N : ℕ} {A B : ℕ → List Span} {f : Field} → ((i : ℕ) → A i ≡ B i) → Grown n N A f → Grown n N B f
 same e G = record { kept = G .kept; covers = λ i l. rw (← e i) (G .covers i l) }
-
--- a column of the grid
-pub cell-below : (x z w h : ℕ) → x < w → z < h → x + z * w < w * h
-cell-below x z w h p q = omega (arith, suc-mul z w, mul-le-mul-right w q, mul-comm w h)
 
 -- ---- one span
 

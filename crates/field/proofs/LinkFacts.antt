@@ -8,6 +8,7 @@ use native.Mathlib.Omega.{arith}
 use lib.ListN.{length, getD, List·getD-eq-default}
 use Rattle.compact_span.specs.Word.{emptyMark}
 use Rattle.grid.specs.Grid.{height}
+use Rattle.grid.proofs.Places.{cell-below}
 use Rattle.field.specs.declared.Span.{Span}
 use Rattle.field.specs.Slots.{none}
 use Rattle.field.specs.Beside.{besideAt, beside}
@@ -16,7 +17,6 @@ use Rattle.field.specs.Links.{passes, link}
 use Rattle.field.specs.Compact.{Result, Room, complete}
 use Rattle.field.specs.Linked.{Floor, CanStep, Step, linkFrom, Stored, Leads}
 use Rattle.field.proofs.Basics.{only}
-use Rattle.field.proofs.Growing.{cell-below}
 use Rattle.field.proofs.Beside.{beside-at}
 use Rattle.field.proofs.Opening.{nowhere}
 use Rattle.field.proofs.Floors.{openOf, floor-open, open-floor, can-passes, passes-can, none-so-tall, step-beside, step-direction, beside-step}

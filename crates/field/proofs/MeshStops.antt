@@ -13,6 +13,7 @@ use Rattle.grid.specs.Grid.{width, height, columns, coordinateOk, coordinate, f
 use Rattle.grid.proofs.Accepted.{accepted}
 use Rattle.clip.specs.Work.{Event, insert as offer, stop, frameOf}
 use Rattle.clip.proofs.Works.{Proper, triangle-proper}
+use Rattle.grid.proofs.Places.{cell-below}
 use Rattle.field.specs.declared.Span.{Span}
 use Rattle.field.specs.Field.{Field, Holds, insert}
 use Rattle.field.specs.Store.{Store, Fitting, Sound, cleared, Outcome, left}
@@ -23,7 +24,6 @@ use Rattle.field.proofs.Basics.{by-test}
 use Rattle.field.proofs.Accepting.{Kept}
 use Rattle.field.proofs.Unique.{field-fixed}
 use Rattle.field.proofs.Refusal.{refused-exactly}
-use Rattle.field.proofs.Growing.{cell-below}
 use Rattle.field.proofs.Standing.{Standing, history-stands, rasterized-grows}
 use Rattle.field.proofs.Stopping.{Refused, mesh-refused-next}
 

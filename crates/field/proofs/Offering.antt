@@ -8,6 +8,7 @@ use native.Mathlib.Omega.{arith}
 use lib.ListN.{length, take, drop, replicate, take-append-drop}
 use lib.Seq.{length-take-le, take-at, drop-at}
 use Rattle.replies.specs.Said.{just}
+use Rattle.grid.proofs.Places.{cell-below}
 use Rattle.field.specs.declared.Span.{Span}
 use Rattle.field.specs.Slots.{Slots}
 use Rattle.field.specs.Field.{Field, Holds, Held, insert}
@@ -15,7 +16,6 @@ use Rattle.field.specs.Store.{store, left}
 use Rattle.field.specs.Calls.{Offers}
 use Rattle.field.proofs.Basics.{true-false}
 use Rattle.field.proofs.Refusal.{refused-field}
-use Rattle.field.proofs.Growing.{cell-below}
 use Rattle.field.proofs.Unique.{store-fixed}
 
 module _ (w h x z : ℕ) (new : Span) (th : ℕ) (heads : List ℕ) (t : Slots) (marks : List ℕ) (enough : w * h ≤ length heads) (xw : x < w) (zh : z < h) {n : ℕ} (en : n ≡ w * h) {col : ℕ} (ec : col ≡ x + z * w) where

@@ -15,6 +15,7 @@ use Rattle.grid.proofs.Accepted.{accepted}
 use Rattle.clip.specs.declared.frame.Frame.{Frame}
 use Rattle.clip.specs.Work.{frameOf}
 use Rattle.clip.proofs.Works.{triangle-proper}
+use Rattle.grid.proofs.Places.{cell-below}
 use Rattle.field.specs.declared.Span.{Span}
 use Rattle.field.specs.Spans.{range}
 use Rattle.field.specs.Slots.{Contents, Slots}
@@ -31,7 +32,7 @@ use Rattle.field.proofs.Basics.{by-test}
 use Rattle.field.proofs.Stretching.{Covers}
 use Rattle.field.proofs.Emptying.{fresh-covers}
 use Rattle.field.proofs.Unique.{store-fixed, field-fixed}
-use Rattle.field.proofs.Growing.{Grown, cell-below, more, grows, filter-grows, mesh-grows}
+use Rattle.field.proofs.Growing.{Grown, more, grows, filter-grows, mesh-grows}
 
 -- where `A i` are the spans accepted in column i
 pub record Standing (g : Grid) (A : ℕ → List Span) (s : Store) : Type 0 where

@@ -6,3 +6,4 @@ pub mod Answers
 pub mod Accepted
 pub mod Finite
 pub mod Tried
+pub mod Places

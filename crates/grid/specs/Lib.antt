@@ -1,2 +1,3 @@
 pub mod Grid
+pub mod Directions
 pub mod Answer

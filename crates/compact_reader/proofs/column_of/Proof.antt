@@ -2,7 +2,7 @@
 use mathlib.Core.Path.{refl}
 use native.Mathlib.Omega.{arith}
 use borrow.Author.Needs.{needs}
-use Rattle.compact_reader.proofs.Places.{cell-below}
+use Rattle.grid.proofs.Places.{cell-below}
 use Rattle.compact_reader.proofs.column_of.Statement.{statement}
 use Rattle.compact_reader.proofs.column_of.Tie as tie
 

@@ -2,7 +2,7 @@
 use mathlib.Core.Path.{refl}
 use native.Mathlib.Omega.{arith}
 use borrow.Author.Needs.{needs}
-use Rattle.field.proofs.Growing.{cell-below}
+use Rattle.grid.proofs.Places.{cell-below}
 use Rattle.rerecast.proofs.heightfield.column_of.Statement.{statement}
 use Rattle.rerecast.proofs.heightfield.column_of.Tie as tie
 

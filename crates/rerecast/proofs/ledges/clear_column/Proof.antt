@@ -9,7 +9,7 @@ use Rattle.field.specs.Field.{columnAt, spans}
 use Rattle.field.specs.Beside.{beside}
 use Rattle.field.specs.FilterCode.{Rim}
 use Rattle.field.specs.Filters.{ruled, assign, firm}
-use Rattle.field.proofs.Growing.{cell-below}
+use Rattle.grid.proofs.Places.{cell-below}
 use Rattle.field.proofs.Holding.{column-chain, column-distinct}
 use Rattle.field.proofs.Beside.{beside-off, beside-around, inner-below, rim-not}
 use Rattle.field.proofs.Assigning.{ruled-agree}

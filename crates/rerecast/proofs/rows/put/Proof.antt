@@ -5,7 +5,7 @@ use Prim.Native.Nat.{ℕ, _+_, _*_, _<_}
 use native.Mathlib.Omega.{arith}
 use lib.ListN.{length, length-append}
 use Rattle.field.proofs.Refusal.{refused-field}
-use Rattle.field.proofs.Growing.{cell-below}
+use Rattle.grid.proofs.Places.{cell-below}
 use Rattle.rerecast.proofs.Rasterizing.{landed-goes, refused-stops}
 use Rattle.rerecast.proofs.rows.put.Statement.{statement}
 use Rattle.rerecast.proofs.rows.put.Tie as tie

@@ -2,7 +2,7 @@
 use mathlib.Core.Path.{refl}
 use native.Mathlib.Omega.{arith}
 use Prim.Native.Nat.{_+_, _*_, _<_}
-use Rattle.field.proofs.Growing.{cell-below}
+use Rattle.grid.proofs.Places.{cell-below}
 use Rattle.rerecast.proofs.sides.column_at.Statement.{statement}
 use Rattle.rerecast.proofs.sides.column_at.Tie as tie
 
