@@ -26,14 +26,15 @@ struct Post {
     climb: u16,
 }
 
-// The link in one direction, and the layer that it misses.
+// The link in one direction, the layer that it misses, and the layer that was come to: those below it are out of reach for the rest of the column.
 struct Found {
     layer: u8,
     missed: u8,
     from: u8,
 }
 
-// By direction, the layer up to which all layers of the cell beside are out of reach for the rest of the column.
+// By direction, how far the layers of the cell beside are out of reach for the rest of the column. A column's open spaces are linked from the lowest
+// up, so what one of them has left behind the next need not look at, and the links of a column are linear in floors.
 struct Cursors {
     from0: u8,
     from1: u8,
@@ -41,7 +42,7 @@ struct Cursors {
     from3: u8,
 }
 
-// An open space's word, and the largest layer that its links miss.
+// An open space's word, the largest layer that its links miss, and the cursors for the next one.
 struct Bound {
     word: u32,
     missed: u8,
@@ -101,7 +102,7 @@ struct Look {
     passes: bool,
 }
 
-// Looks through `n` layers from place `first` on, from layer `from` up.
+// Looks through `n` layers from place `first` on, from layer `from` up, to the first that an agent passes to or that is past.
 fn look_up(ys: &[u16], data: &[u32], first: usize, n: u8, from: u8, q: Post) -> Look
     requires { ⌜ (from ≤ n) × (first + n ≤ length (now ys)) × (first + n ≤ length (now «data»)) × Climbs (now ys) first n × AllBehind (q .tall) (q .climb) (q .y) (now ys) (now «data») first from ⌝ }
     ensures { λ r. ⌜ Looked (q .tall) (q .climb) (space (q .y) (q .height) 0) (now (ys .entry)) (now («data» .entry)) first n r ⌝ }
@@ -172,6 +173,7 @@ fn link_to(ys: &[u16], data: &[u32], side: Side, from: u8, q: Post) -> Found
             from,
         };
     }
+    // a link goes to layer 61 at most
     if from < 62 {
         return Found {
             layer: from,
