@@ -22,7 +22,7 @@ ghost use Rattle.field.specs.Beside.{beside};
 ghost use Rattle.field.specs.LedgeTest.{seen, looked, lookedAt, tells, ledge};
 ghost use Rattle.field.specs.FilterCode.{roofAt, Rim, around, greatest, hollowOf, Inside, Cursor, Cursors};
 ghost use Rattle.field.specs.Filters.{ruled, assign, firm, ledges};
-ghost use Rattle.rerecast.specs.PreFilter.{standOf, viewOf, sidesOf};
+ghost use Rattle.rerecast.specs.PreFilter.{standOf, viewOf, sidesOf, Under, AllUnder};
 
 // Where an agent stands: the ceiling of a span and the floor above it, with the walkable height and the climb.
 struct Stand {
@@ -53,14 +53,13 @@ struct Judged {
     sides: Sides,
 }
 
-// One neighbour span more: its ceiling, and the floor above it.
+// One neighbour span more: its ceiling, and the floor above it. No floor comes here that is too low, nor a ceiling that is too high, so only the room between the two is tested.
 fn see(st: Stand, ceiling: u16, floor: u16, v: View) -> View
     requires { ⌜ v .drop ≡ false ⌝ }
+    requires { ⌜ (st .top + st .height ≤ st .roof) × (st .top + st .height ≤ floor) × (ceiling + st .height ≤ st .roof) ⌝ }
     ensures { λ r. ⌜ viewOf r ≡ seen (standOf st) ceiling floor (viewOf v) ⌝ }
 {
-    let bottom = greater(st.top, ceiling);
-    let lid = lesser(st.roof, floor);
-    if !has_room(bottom, st.height, lid) {
+    if !has_room(ceiling, st.height, floor) {
         return v;
     }
     if !within(st.top, ceiling, st.climb) {
@@ -86,6 +85,7 @@ fn see(st: Stand, ceiling: u16, floor: u16, v: View) -> View
 fn look(floors: &[u16], ceilings: &[u16], nexts: &[u32], s: u32, st: Stand, start: View) -> View
     requires { ⌜ (length (now floors) ≡ length (now nexts)) × (length (now ceilings) ≡ length (now nexts)) ⌝ }
     requires { ⌜ ((ss : List ℕ) × (Chain (now nexts) s ss × Climbs (now floors) (now ceilings) 0 ss)) ⌝ }
+    requires { ⌜ (st .top + st .height ≤ st .roof) × Under (now floors) (now nexts) (st .top + st .height) s ⌝ }
     ensures { λ r. ⌜ ((areas ss : List ℕ) → Chain (now (nexts .entry)) s ss → viewOf r ≡ looked (standOf st) (viewOf start) (map (spanAt (contents (now (floors .entry)) (now (ceilings .entry)) areas)) ss)) ⌝ }
 {
     let mut at = s;
@@ -112,6 +112,7 @@ fn skip(floors: &[u16], nexts: &[u32], s: u32, need: u32) -> u32
     requires { ⌜ length (now floors) ≡ length (now nexts) ⌝ }
     requires { ⌜ ((ss : List ℕ) × Chain (now nexts) s ss) ⌝ }
     ensures { λ r. ⌜ ((ceilings areas : List ℕ) (whole : List Span) → Cursor (contents (now (floors .entry)) ceilings areas) (now (nexts .entry)) need whole s → Cursor (contents (now (floors .entry)) ceilings areas) (now (nexts .entry)) need whole r) ⌝ }
+    ensures { λ r. ⌜ Under (now (floors .entry)) (now (nexts .entry)) need r ⌝ }
 {
     let mut at = s;
     while at != NONE {
@@ -130,6 +131,7 @@ fn follow(floors: &[u16], nexts: &[u32], sides: Sides, need: u32) -> Sides
     requires { ⌜ length (now floors) ≡ length (now nexts) ⌝ }
     requires { ⌜ ((ceilings : List ℕ) × (areas : List ℕ) × (at : ℕ → List Span) × (w : ℕ) × (i : ℕ) × Cursors (contents (now floors) ceilings areas) (now nexts) need at (around w i) (sidesOf sides)) ⌝ }
     ensures { λ r. ⌜ ((ceilings areas : List ℕ) (at : ℕ → List Span) (w i : ℕ) → Cursors (contents (now (floors .entry)) ceilings areas) (now (nexts .entry)) need at (around w i) (sidesOf sides) → Cursors (contents (now (floors .entry)) ceilings areas) (now (nexts .entry)) need at (around w i) (sidesOf r)) ⌝ }
+    ensures { λ r. ⌜ AllUnder (now (floors .entry)) (now (nexts .entry)) need r ⌝ }
 {
     Sides {
         west: skip(floors, nexts, sides.west, need),
@@ -143,6 +145,7 @@ fn follow(floors: &[u16], nexts: &[u32], sides: Sides, need: u32) -> Sides
 fn looks_steep(floors: &[u16], ceilings: &[u16], nexts: &[u32], sides: Sides, st: Stand) -> bool
     requires { ⌜ (length (now floors) ≡ length (now nexts)) × (length (now ceilings) ≡ length (now nexts)) ⌝ }
     requires { ⌜ ((areas : List ℕ) × (at : ℕ → List Span) × (w : ℕ) × (i : ℕ) × Cursors (contents (now floors) (now ceilings) areas) (now nexts) (st .top + st .height) at (around w i) (sidesOf sides)) ⌝ }
+    requires { ⌜ (st .top + st .height ≤ st .roof) × AllUnder (now floors) (now nexts) (st .top + st .height) sides ⌝ }
     ensures { λ r. ⌜ ((areas : List ℕ) (at : ℕ → List Span) (w i : ℕ) → Cursors (contents (now (floors .entry)) (now (ceilings .entry)) areas) (now (nexts .entry)) (st .top + st .height) at (around w i) (sidesOf sides) → r ≡ tells (standOf st) (lookedAt (standOf st) at (around w i))) ⌝ }
 {
     let start = View {

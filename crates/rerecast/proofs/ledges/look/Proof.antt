@@ -1,11 +1,12 @@
 -- `look` meets its contract: looking at what is left of the column ends as looking at the whole, so it may stop at a drop and at a span that is too high.
-use Prim.Native.Nat.{_<_, _≤_}
+use Prim.Native.Nat.{_+_, _<_, _≤_}
 use lib.ListN.{length}
 use native.Mathlib.Omega.{arith}
 use mathlib.Core.Path.{sym, _∙_}
-use borrow.Author.Tests.{not-true, leb-false}
+use borrow.Author.Tests.{not-true, not-false, leb-true, leb-false}
 use Rattle.field.specs.Slots.{none}
 use Rattle.field.specs.Inner.{slotsFrom}
+use Rattle.field.specs.Walkable.{openTop}
 use Rattle.field.proofs.LookingUp.{LookingUp, looking-start, looking-slot, looking-next, looking-less, looking-step, looking-drop, looking-stop, looking-end}
 use Rattle.rerecast.specs.PreFilter.{standOf, viewOf}
 use Rattle.rerecast.proofs.ledges.look.Statement.{statement}
@@ -18,11 +19,15 @@ Inv-loop floors ceilings nexts s st at₀ v₀ at v = LookingUp floors ceilings 
 abbrev μ-loop : tie.MeasureT-loop
 μ-loop floors ceilings nexts s st at₀ v₀ at v = length (slotsFrom nexts at)
 
+-- where the agent stands there is room under the open top
+low : (s : tie.Start Inv-loop μ-loop) → s .args .st .top + s .args .st .height ≤ openTop
+low s = omega (arith, s .pre .1 .1 .0, s .good)
+
 slot : (c : tie.In-loop Inv-loop μ-loop) → (c .before .loop .at < length (c .before .before .before .before .before .args .nexts .now)) × (length (c .before .before .before .before .before .args .nexts .now) ≤ none)
 slot c = looking-slot (c .before .loop .inv) (c .loop-test .taken)
 
 loop-holds : tie.Need-loop-holds Inv-loop μ-loop
-loop-holds c = let s = c .before .before .before in looking-start _ _ (s .pre .1 .0) (s .pre .1 .1 .0) (s .pre .1 .1 .1)
+loop-holds c = let s = c .before .before .before in looking-start _ _ (s .pre .1 .0 .0) (s .pre .1 .0 .1 .0) (s .pre .1 .0 .1 .1) (s .pre .1 .1 .1)
 
 returns : tie.Need-returns Inv-loop μ-loop
 returns c = looking-drop (c .before .before .loop .inv) (c .if1 .taken)
@@ -56,7 +61,10 @@ roof-of-requires c κs = λ n.
     rw i (omega (arith, looking-next (c .before .before .before .before .before .before .before .loop .inv) (c .before .before .before .before .before .before .loop-test .taken) (rw i at n)))
 
 see-requires : tie.Need-see-requires Inv-loop μ-loop
-see-requires c κs = c .before .before .before .before .before .before .if1 .left
+see-requires c κs =
+    let i = c .before .before .before .before .before .index .ensures in
+    let room = leb-true _ _ (rw i at (sym (c .before .before .before .has-room .ensures)) ∙ not-false _ (c .before .before .if2 .left)) in
+    (c .before .before .before .before .before .before .if1 .left, (c .before .before .before .before .before .before .before .before .before .before .before .before .pre .1 .1 .0, rw (c .roof-of .ensures, i) (c .before .before .before .before .before .before .before .before .loop .inv .under (c .before .before .before .before .before .before .before .loop-test .taken)), rw i room))
 
 loop-less : tie.Need-loop-less Inv-loop μ-loop
 loop-less c = rw (c .before .before .before .before .before .before .index .ensures) (looking-less (c .before .before .before .before .before .before .before .before .before .loop .inv) (c .before .before .before .before .before .before .before .before .loop-test .taken))
@@ -64,7 +72,7 @@ loop-less c = rw (c .before .before .before .before .before .before .index .ensu
 loop-again : tie.Need-loop-again Inv-loop μ-loop
 loop-again c =
     let i = c .before .before .before .before .before .before .index .ensures in
-    rw i (looking-step (c .before .before .before .before .before .before .before .before .before .loop .inv) (c .before .before .before .before .before .before .before .before .loop-test .taken) (rw (c .before .roof-of .ensures, i) at (c .see .ensures)))
+    rw i (looking-step (c .before .before .before .before .before .before .before .before .before .loop .inv) (c .before .before .before .before .before .before .before .before .loop-test .taken) (low (c .before .before .before .before .before .before .before .before .before .before .before .before .before)) (rw (c .before .roof-of .ensures, i) at (c .see .ensures)))
 
 returns-3 : tie.Need-returns-3 Inv-loop μ-loop
 returns-3 c = looking-end (c .before .loop .inv) (c .loop-test .left)
