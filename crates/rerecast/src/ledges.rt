@@ -88,12 +88,12 @@ fn look(floors: &[u16], ceilings: &[u16], nexts: &[u32], s: u32, st: Stand, star
     requires { ⌜ (st .top + st .height ≤ st .roof) × Under (now floors) (now nexts) (st .top + st .height) s ⌝ }
     ensures { λ r. ⌜ ((areas ss : List ℕ) → Chain (now (nexts .entry)) s ss → viewOf r ≡ looked (standOf st) (viewOf start) (map (spanAt (contents (now (floors .entry)) (now (ceilings .entry)) areas)) ss)) ⌝ }
 {
+    if start.drop {
+        return start;
+    }
     let mut at = s;
     let mut v = start;
     while at != NONE {
-        if v.drop {
-            return v;
-        }
         let i = index(at);
         let ceiling = ceilings[i];
         if !has_room(ceiling, st.height, st.roof) {
@@ -102,6 +102,9 @@ fn look(floors: &[u16], ceilings: &[u16], nexts: &[u32], s: u32, st: Stand, star
         let next = nexts[i];
         let floor = roof_of(floors, next);
         v = see(st, ceiling, floor, v);
+        if v.drop {
+            return v;
+        }
         at = next;
     }
     v
