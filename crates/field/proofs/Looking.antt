@@ -25,6 +25,13 @@ not-leb a b =
 
 -- ---- one span
 
+-- where the floor `c` is high enough for the agent, and the ceiling `n` low enough under its own roof, the room between the two is all that is left to test
+pub roomy-between : (st : Stand) (n c : ℕ) → st .top + st .height ≤ st .roof → st .top + st .height ≤ c → n + st .height ≤ st .roof → roomy st n c ≡ leb (n + st .height) c
+roomy-between st n c a b d =
+    by-test (leb (n + st .height) c)
+    (λ e. rw e (le-leb (max (st .top) n + st .height) (min (st .roof) c) (omega (arith, leb-true (n + st .height) c e))))
+    (λ e. rw e (lt-leb (max (st .top) n + st .height) (min (st .roof) c) (omega (arith, leb-false (n + st .height) c e))))
+
 seen-drop : (st : Stand) (n c : ℕ) (v : View) → v .drop ≡ true → seen st n c v ≡ v
 seen-drop st n c v e = rw e
 

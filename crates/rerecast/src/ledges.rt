@@ -1,6 +1,9 @@
 // The filter for ledges on a sound field: which spans lie at a ledge, found column by column from the spans beside.
 use crate::insertion::greater;
 use crate::insertion::lesser;
+use crate::places::Cell;
+use crate::places::next_cell;
+use crate::places::on_rim;
 use crate::pre_filter::has_room;
 use crate::pre_filter::roof_of;
 use crate::pre_filter::within;
@@ -16,13 +19,13 @@ ghost use Rattle.field.specs.declared.Span.{Span};
 ghost use Rattle.field.specs.Slots.{contents, spanAt, slots};
 ghost use Rattle.field.specs.Field.{Field, spans, Holds, Held};
 ghost use Rattle.grid.specs.Grid.{width, height};
-ghost use Rattle.field.specs.Inner.{Says, Chain, Distinct};
+ghost use Rattle.field.specs.Inner.{Chain, Distinct};
 ghost use Rattle.field.specs.Marks.{Climbs};
 ghost use Rattle.field.specs.Beside.{beside};
 ghost use Rattle.field.specs.LedgeTest.{seen, looked, lookedAt, tells, ledge};
-ghost use Rattle.field.specs.FilterCode.{roofAt, Rim, around, greatest, hollowOf, Inside, Cursor, Cursors};
+ghost use Rattle.field.specs.FilterCode.{roofAt, around, greatest, hollowOf, Inside, Cursor, Cursors};
 ghost use Rattle.field.specs.Filters.{ruled, assign, firm, ledges};
-ghost use Rattle.rerecast.specs.PreFilter.{standOf, viewOf, sidesOf};
+ghost use Rattle.rerecast.specs.PreFilter.{standOf, viewOf, sidesOf, Under, AllUnder};
 
 // Where an agent stands: the ceiling of a span and the floor above it, with the walkable height and the climb.
 struct Stand {
@@ -53,14 +56,13 @@ struct Judged {
     sides: Sides,
 }
 
-// One neighbour span more: its ceiling, and the floor above it.
+// One neighbour span more: its ceiling, and the floor above it. No floor comes here that is too low, nor a ceiling that is too high, so only the room between the two is tested.
 fn see(st: Stand, ceiling: u16, floor: u16, v: View) -> View
     requires { ⌜ v .drop ≡ false ⌝ }
+    requires { ⌜ (st .top + st .height ≤ st .roof) × (st .top + st .height ≤ floor) × (ceiling + st .height ≤ st .roof) ⌝ }
     ensures { λ r. ⌜ viewOf r ≡ seen (standOf st) ceiling floor (viewOf v) ⌝ }
 {
-    let bottom = greater(st.top, ceiling);
-    let lid = lesser(st.roof, floor);
-    if !has_room(bottom, st.height, lid) {
+    if !has_room(ceiling, st.height, floor) {
         return v;
     }
     if !within(st.top, ceiling, st.climb) {
@@ -86,14 +88,15 @@ fn see(st: Stand, ceiling: u16, floor: u16, v: View) -> View
 fn look(floors: &[u16], ceilings: &[u16], nexts: &[u32], s: u32, st: Stand, start: View) -> View
     requires { ⌜ (length (now floors) ≡ length (now nexts)) × (length (now ceilings) ≡ length (now nexts)) ⌝ }
     requires { ⌜ ((ss : List ℕ) × (Chain (now nexts) s ss × Climbs (now floors) (now ceilings) 0 ss)) ⌝ }
+    requires { ⌜ (st .top + st .height ≤ st .roof) × Under (now floors) (now nexts) (st .top + st .height) s ⌝ }
     ensures { λ r. ⌜ ((areas ss : List ℕ) → Chain (now (nexts .entry)) s ss → viewOf r ≡ looked (standOf st) (viewOf start) (map (spanAt (contents (now (floors .entry)) (now (ceilings .entry)) areas)) ss)) ⌝ }
 {
+    if start.drop {
+        return start;
+    }
     let mut at = s;
     let mut v = start;
     while at != NONE {
-        if v.drop {
-            return v;
-        }
         let i = index(at);
         let ceiling = ceilings[i];
         if !has_room(ceiling, st.height, st.roof) {
@@ -102,6 +105,9 @@ fn look(floors: &[u16], ceilings: &[u16], nexts: &[u32], s: u32, st: Stand, star
         let next = nexts[i];
         let floor = roof_of(floors, next);
         v = see(st, ceiling, floor, v);
+        if v.drop {
+            return v;
+        }
         at = next;
     }
     v
@@ -112,6 +118,7 @@ fn skip(floors: &[u16], nexts: &[u32], s: u32, need: u32) -> u32
     requires { ⌜ length (now floors) ≡ length (now nexts) ⌝ }
     requires { ⌜ ((ss : List ℕ) × Chain (now nexts) s ss) ⌝ }
     ensures { λ r. ⌜ ((ceilings areas : List ℕ) (whole : List Span) → Cursor (contents (now (floors .entry)) ceilings areas) (now (nexts .entry)) need whole s → Cursor (contents (now (floors .entry)) ceilings areas) (now (nexts .entry)) need whole r) ⌝ }
+    ensures { λ r. ⌜ Under (now (floors .entry)) (now (nexts .entry)) need r ⌝ }
 {
     let mut at = s;
     while at != NONE {
@@ -130,6 +137,7 @@ fn follow(floors: &[u16], nexts: &[u32], sides: Sides, need: u32) -> Sides
     requires { ⌜ length (now floors) ≡ length (now nexts) ⌝ }
     requires { ⌜ ((ceilings : List ℕ) × (areas : List ℕ) × (at : ℕ → List Span) × (w : ℕ) × (i : ℕ) × Cursors (contents (now floors) ceilings areas) (now nexts) need at (around w i) (sidesOf sides)) ⌝ }
     ensures { λ r. ⌜ ((ceilings areas : List ℕ) (at : ℕ → List Span) (w i : ℕ) → Cursors (contents (now (floors .entry)) ceilings areas) (now (nexts .entry)) need at (around w i) (sidesOf sides) → Cursors (contents (now (floors .entry)) ceilings areas) (now (nexts .entry)) need at (around w i) (sidesOf r)) ⌝ }
+    ensures { λ r. ⌜ AllUnder (now (floors .entry)) (now (nexts .entry)) need r ⌝ }
 {
     Sides {
         west: skip(floors, nexts, sides.west, need),
@@ -143,6 +151,7 @@ fn follow(floors: &[u16], nexts: &[u32], sides: Sides, need: u32) -> Sides
 fn looks_steep(floors: &[u16], ceilings: &[u16], nexts: &[u32], sides: Sides, st: Stand) -> bool
     requires { ⌜ (length (now floors) ≡ length (now nexts)) × (length (now ceilings) ≡ length (now nexts)) ⌝ }
     requires { ⌜ ((areas : List ℕ) × (at : ℕ → List Span) × (w : ℕ) × (i : ℕ) × Cursors (contents (now floors) (now ceilings) areas) (now nexts) (st .top + st .height) at (around w i) (sidesOf sides)) ⌝ }
+    requires { ⌜ (st .top + st .height ≤ st .roof) × AllUnder (now floors) (now nexts) (st .top + st .height) sides ⌝ }
     ensures { λ r. ⌜ ((areas : List ℕ) (at : ℕ → List Span) (w i : ℕ) → Cursors (contents (now (floors .entry)) (now (ceilings .entry)) areas) (now (nexts .entry)) (st .top + st .height) at (around w i) (sidesOf sides) → r ≡ tells (standOf st) (lookedAt (standOf st) at (around w i))) ⌝ }
 {
     let start = View {
@@ -222,8 +231,8 @@ fn hollow_of(floors: &[u16], sides: Sides) -> u16
     greater(greater(a, b), greater(c, d))
 }
 
-// The filter on the spans of a column that is not at the rim.
-fn clear_spans(
+// The filter on a column that is not at the rim.
+fn clear_inner(
     heads: &[u32],
     floors: &[u16],
     ceilings: &[u16],
@@ -259,39 +268,6 @@ fn clear_spans(
     }
 }
 
-// The filter on a column that is not at the rim. In an empty one there is nothing to look for, and many columns are empty.
-fn clear_inner(
-    heads: &[u32],
-    floors: &[u16],
-    ceilings: &[u16],
-    areas: &mut [u8],
-    nexts: &[u32],
-    width: usize,
-    column: usize,
-    height: u16,
-    climb: u16,
-)
-    requires { ⌜ (0 < column) × (width ≤ column) × (column + width < length (now heads)) × (column + 1 < length (now heads)) × (length (now heads) ≤ 1048576) ⌝ }
-    requires { ⌜ length (now areas) ≡ length (now nexts) ⌝ }
-    requires { ⌜ ((free : ℕ) × (areas₀ : List ℕ) × Held (now heads) (slots free (now floors) (now ceilings) areas₀ (now nexts))) ⌝ }
-    ensures { λ _. ⌜ ((free : ℕ) (areas₀ : List ℕ) (f : Field) → Holds (now (heads .entry)) (slots free (now (floors .entry)) (now (ceilings .entry)) areas₀ (now (nexts .entry))) f → (ss : List ℕ) → Chain (now (nexts .entry)) (getD (now (heads .entry)) column 0) ss → now (areas .exit) ≡ assign (now (areas .entry)) ss (ruled (λ below s above. firm height climb (spans f) (around width column) s above) [] (map (spanAt (contents (now (floors .entry)) (now (ceilings .entry)) (now (areas .entry)))) ss))) ⌝ }
-{
-    if heads[column] == NONE {
-        return;
-    }
-    clear_spans(
-        heads,
-        floors,
-        ceilings,
-        areas,
-        nexts,
-        width,
-        column,
-        height,
-        climb,
-    );
-}
-
 // The filter on a column at the rim, where every span is at a ledge.
 fn clear_all(areas: &mut [u8], nexts: &[u32], head: u32)
     requires { ⌜ length (now areas) ≡ length (now nexts) ⌝ }
@@ -306,30 +282,8 @@ fn clear_all(areas: &mut [u8], nexts: &[u32], head: u32)
     }
 }
 
-// A place on the grid.
-struct Cell {
-    x: usize,
-    z: usize,
-}
-
-fn on_rim(width: usize, depth: usize, c: Cell) -> bool
-    requires { ⌜ (c .x < width) × (c .z < depth) × (width * depth ≤ 1048576) ⌝ }
-    ensures { λ r. ⌜ Says r (Rim width depth (c .x) (c .z)) ⌝ }
-{
-    if c.x == 0 {
-        return true;
-    }
-    if depth <= c.z + 1 {
-        return true;
-    }
-    if width <= c.x + 1 {
-        return true;
-    }
-    c.z == 0
-}
-
-// The filter on one column.
-fn clear_column(
+// The filter on the spans of one column.
+fn clear_spans(
     heads: &[u32],
     floors: &[u16],
     ceilings: &[u16],
@@ -364,15 +318,40 @@ fn clear_column(
     }
 }
 
-// The place that follows, row by row.
-fn next_cell(width: usize, c: Cell) -> Cell
-    requires { ⌜ (c .x < width) × (width ≤ 1048576) × (c .z < 1048576) ⌝ }
-    ensures { λ r. ⌜ (r .x < width) × (r .x + r .z * width ≡ c .x + c .z * width + 1) ⌝ }
+// The filter on one column. Many are empty, and in an empty one there is nothing to look for.
+fn clear_column(
+    heads: &[u32],
+    floors: &[u16],
+    ceilings: &[u16],
+    areas: &mut [u8],
+    nexts: &[u32],
+    width: usize,
+    depth: usize,
+    c: Cell,
+    height: u16,
+    climb: u16,
+)
+    requires { ⌜ (c .x < width) × (c .z < depth) × (width * depth ≡ length (now heads)) × (width * depth ≤ 1048576) ⌝ }
+    requires { ⌜ length (now areas) ≡ length (now nexts) ⌝ }
+    requires { ⌜ ((free : ℕ) × (areas₀ : List ℕ) × Held (now heads) (slots free (now floors) (now ceilings) areas₀ (now nexts))) ⌝ }
+    ensures { λ _. ⌜ ((free : ℕ) (areas₀ : List ℕ) (f : Field) → Holds (now (heads .entry)) (slots free (now (floors .entry)) (now (ceilings .entry)) areas₀ (now (nexts .entry))) f → (ss : List ℕ) → Chain (now (nexts .entry)) (getD (now (heads .entry)) (c .x + c .z * width) 0) ss → now (areas .exit) ≡ assign (now (areas .entry)) ss (ruled (λ below s above. firm height climb (spans f) (beside width depth (c .x + c .z * width)) s above) [] (map (spanAt (contents (now (floors .entry)) (now (ceilings .entry)) (now (areas .entry)))) ss))) ⌝ }
 {
-    if c.x + 1 == width {
-        return Cell { x: 0, z: c.z + 1 };
+    let column = c.x + c.z * width;
+    if heads[column] == NONE {
+        return;
     }
-    Cell { x: c.x + 1, z: c.z }
+    clear_spans(
+        heads,
+        floors,
+        ceilings,
+        areas,
+        nexts,
+        width,
+        depth,
+        c,
+        height,
+        climb,
+    );
 }
 
 // The filter on a sound field of width × depth columns.

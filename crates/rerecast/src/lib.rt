@@ -7,6 +7,7 @@ mod insertion;
 mod ledges;
 mod links;
 mod mesh_admission;
+mod places;
 pub mod pre_filter;
 pub mod rasterize;
 mod rows;

@@ -15,8 +15,11 @@ skip-requires-4 : tie.Need-skip-requires-4
 skip-requires-4 c κs = let p = c .before .before .before .before .before .pre in let k = p .1 .5 .1 .1 .1 .0 in (p .0, (k .rest, k .chain))
 
 returns : tie.Need-returns
-returns c = λ ceilings areas at w i k.
-    (c .before .before .before .skip .ensures ceilings areas _ (k .0), (c .before .before .skip2 .ensures ceilings areas _ (k .1 .0), (c .before .skip3 .ensures ceilings areas _ (k .1 .1 .0), (c .skip4 .ensures ceilings areas _ (k .1 .1 .1 .0), tt))))
+returns c = (
+  λ ceilings areas at w i k.
+      (c .before .before .before .skip .ensures .0 ceilings areas _ (k .0), (c .before .before .skip2 .ensures .0 ceilings areas _ (k .1 .0), (c .before .skip3 .ensures .0 ceilings areas _ (k .1 .1 .0), (c .skip4 .ensures .0 ceilings areas _ (k .1 .1 .1 .0), tt)))),
+  (c .before .before .before .skip .ensures .1, c .before .before .skip2 .ensures .1, c .before .skip3 .ensures .1, c .skip4 .ensures .1),
+)
 
 pub follow-spec : {M : Type 1} → statement M
 follow-spec =

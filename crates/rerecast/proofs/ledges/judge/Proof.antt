@@ -23,7 +23,7 @@ moved : (c : tie.After-follow) (areas : List ℕ) (at : ℕ → List Span) (w i 
     → Cursors (contents (c .before .before .before .before .before .before .before .before .before .before .before .args .floors .now) (c .before .before .before .before .before .before .before .before .before .before .before .args .ceilings .now) areas) (c .before .before .before .before .before .before .before .before .before .before .before .args .nexts .now) (c .before .before .before .before .before .before .before .before .before .before .before .args .st .top + c .before .before .before .before .before .before .before .before .before .before .before .args .st .height) at (around w i) (sidesOf (c .before .before .before .before .before .before .before .before .before .before .before .args .sides))
     → Cursors (contents (c .before .before .before .before .before .before .before .before .before .before .before .args .floors .now) (c .before .before .before .before .before .before .before .before .before .before .before .args .ceilings .now) areas) (c .before .before .before .before .before .before .before .before .before .before .before .args .nexts .now) (c .before .before .before .before .before .before .before .before .before .before .before .args .st .top + c .before .before .before .before .before .before .before .before .before .before .before .args .st .height) at (around w i) (sidesOf (c .follow .result))
 moved c areas at w i k =
-    (rw (c .before .before .before .before .before .before .before .wide .ensures, c .before .before .before .before .before .before .wide2 .ensures) at (c .follow .ensures)) (c .before .before .before .before .before .before .before .before .before .before .before .args .ceilings .now) areas at w i k
+    (rw (c .before .before .before .before .before .before .before .wide .ensures, c .before .before .before .before .before .before .wide2 .ensures) at (c .follow .ensures .0)) (c .before .before .before .before .before .before .before .before .before .before .before .args .ceilings .now) areas at w i k
 
 -- what the look from them says
 told : (c : tie.After-looks-steep) (areas : List ℕ) (at : ℕ → List Span) (w i : ℕ)
@@ -72,7 +72,7 @@ follow-requires c κs =
 looks-steep-requires : tie.Need-looks-steep-requires
 looks-steep-requires c κs =
     let p = c .before .before .before .before .before .before .before .before .before .before .before .pre in
-    (p .0, (p .1 .0, p .1 .1, p .1 .2, p .1 .3, moved c (p .1 .0) (p .1 .1) (p .1 .2) (p .1 .3) (p .1 .4)))
+    (p .0, ((p .1 .0, p .1 .1, p .1 .2, p .1 .3, moved c (p .1 .0) (p .1 .1) (p .1 .2) (p .1 .3) (p .1 .4)), (omega (arith, c .before .before .before .if2 .left, c .before .before .before .before .wide3 .ensures, c .before .before .before .before .before .before .wide2 .ensures, c .before .before .before .before .before .before .before .wide .ensures), rw (c .before .before .before .before .before .before .before .wide .ensures, c .before .before .before .before .before .before .wide2 .ensures) at (c .follow .ensures .1))))
 
 returns-4 : tie.Need-returns-4
 returns-4 c = λ areas at w i k.

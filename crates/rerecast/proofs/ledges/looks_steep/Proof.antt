@@ -27,16 +27,16 @@ all-seen c areas at w i k =
     (cursor-look (k .1 .1 .1 .0) st _ _ (omega arith) (c .look4 .ensures areas (k .1 .1 .1 .0 .rest) (k .1 .1 .1 .0 .chain)))
 
 look-requires : tie.Need-look-requires
-look-requires c κs = let p = c .before .before .before .pre in let k = p .1 .4 .0 in (p .0, (k .rest, (k .chain, k .climbs)))
+look-requires c κs = let p = c .before .before .before .pre in let k = p .1 .0 .4 .0 in (p .0, ((k .rest, (k .chain, k .climbs)), (p .1 .1 .0, p .1 .1 .1 .0)))
 
 look-requires-2 : tie.Need-look-requires-2
-look-requires-2 c κs = let p = c .before .before .before .before .pre in let k = p .1 .4 .1 .0 in (p .0, (k .rest, (k .chain, k .climbs)))
+look-requires-2 c κs = let p = c .before .before .before .before .pre in let k = p .1 .0 .4 .1 .0 in (p .0, ((k .rest, (k .chain, k .climbs)), (p .1 .1 .0, p .1 .1 .1 .1)))
 
 look-requires-3 : tie.Need-look-requires-3
-look-requires-3 c κs = let p = c .before .before .before .before .before .pre in let k = p .1 .4 .1 .1 .0 in (p .0, (k .rest, (k .chain, k .climbs)))
+look-requires-3 c κs = let p = c .before .before .before .before .before .pre in let k = p .1 .0 .4 .1 .1 .0 in (p .0, ((k .rest, (k .chain, k .climbs)), (p .1 .1 .0, p .1 .1 .1 .2)))
 
 look-requires-4 : tie.Need-look-requires-4
-look-requires-4 c κs = let p = c .before .before .before .before .before .before .pre in let k = p .1 .4 .1 .1 .1 .0 in (p .0, (k .rest, (k .chain, k .climbs)))
+look-requires-4 c κs = let p = c .before .before .before .before .before .before .pre in let k = p .1 .0 .4 .1 .1 .1 .0 in (p .0, ((k .rest, (k .chain, k .climbs)), (p .1 .1 .0, p .1 .1 .1 .3)))
 
 returns : tie.Need-returns
 returns c = λ areas at w i k. rw (← all-seen (c .before) areas at w i k, c .if1 .taken)

@@ -48,7 +48,9 @@ wide-requires : tie.Need-wide-requires Inv-loop μ-loop
 wide-requires c κs = search needs
 
 returns : tie.Need-returns Inv-loop μ-loop
-returns c = λ ceilings areas whole C. c .before .before .before .before .before .before .loop .inv .1 ceilings areas whole C
+returns c =
+    let i = c .before .before .before .before .index .ensures in
+    (λ ceilings areas whole C. c .before .before .before .before .before .before .loop .inv .1 ceilings areas whole C, λ n. omega (arith, rw i at (c .before .before .roof-of .ensures), c .before .wide .ensures, c .if1 .taken))
 
 loop-less : tie.Need-loop-less Inv-loop μ-loop
 loop-less c =
@@ -69,7 +71,8 @@ loop-again c =
     )
 
 returns-2 : tie.Need-returns-2 Inv-loop μ-loop
-returns-2 c = λ ceilings areas whole C. c .before .loop .inv .1 ceilings areas whole C
+returns-2 c =
+    (λ ceilings areas whole C. c .before .loop .inv .1 ceilings areas whole C, λ n. absurd (n (c .loop-test .left)))
 
 pub skip-spec : {M : Type 1} → statement M
 skip-spec =

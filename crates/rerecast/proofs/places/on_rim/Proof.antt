@@ -2,8 +2,8 @@
 use mathlib.Core.Logic.{inl, inr}
 use Rattle.field.proofs.Beside.{rim-says}
 use borrow.Author.Needs.{needs}
-use Rattle.rerecast.proofs.ledges.on_rim.Statement.{statement}
-use Rattle.rerecast.proofs.ledges.on_rim.Tie as tie
+use Rattle.rerecast.proofs.places.on_rim.Statement.{statement}
+use Rattle.rerecast.proofs.places.on_rim.Tie as tie
 
 returns : tie.Need-returns
 returns c = inl (c .if1 .taken)
