@@ -266,7 +266,7 @@ fn turn(
     links: &mut [u32],
     grounds: &mut [u8],
 ) -> State {
-    let read = reader::advance(s, input);
+    let read = reader::advance(s, input, out, at);
     let line = line_of(read, input);
     let c = command_of(read, line);
     let begun = settings::begin(read, c.code);

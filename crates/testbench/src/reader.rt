@@ -1,5 +1,6 @@
 // The input, line by line. A piece of it waits in `input`, of which the bytes before `from` are read.
 use crate::state::State;
+use crate::writer;
 
 // The first line end at or after `from`, or `to` where there is none before it.
 fn find(input: &[u8], from: usize, to: usize) -> usize {
@@ -81,8 +82,9 @@ fn last(s: State) -> State {
     t
 }
 
-// Makes room and reads more. A line that fills all the room is dropped, and named when its end is found.
-fn refill(s: State, input: &mut [u8]) -> State {
+// Makes room and reads more. The answers go out first, since the read may wait for whoever waits for them. A line that fills all the room is dropped, and
+// named when its end is found.
+fn refill(s: State, input: &mut [u8], out: &[u8], at: &mut usize) -> State {
     let kept = shift(input, s.from, s.to);
     let mut t = s;
     t.ready = false;
@@ -93,6 +95,8 @@ fn refill(s: State, input: &mut [u8]) -> State {
         t.dropping = true;
         return t;
     }
+    writer::flush(out, *at);
+    *at = 0;
     let now = read_more(input, kept);
     t.to = now;
     t.ended = now == kept;
@@ -100,7 +104,7 @@ fn refill(s: State, input: &mut [u8]) -> State {
 }
 
 // Goes on by a line, or by a piece of the input, or to the end.
-pub fn advance(s: State, input: &mut [u8]) -> State {
+pub fn advance(s: State, input: &mut [u8], out: &[u8], at: &mut usize) -> State {
     let from = s.from;
     let to = s.to;
     let end = find(input, from, to);
@@ -110,5 +114,5 @@ pub fn advance(s: State, input: &mut [u8]) -> State {
     if s.ended {
         return last(s);
     }
-    refill(s, input)
+    refill(s, input, out, at)
 }

@@ -1,4 +1,4 @@
-// What the program writes. Bytes gather in `out`, of which the first `at` wait, and go out together when there is no more room.
+// What the program writes. Bytes gather in `out`, of which the first `at` wait, and go out together when there is no more room or the program is to wait for input.
 
 // Puts one byte behind the `at` that wait, and answers how many wait now.
 fn put(out: &mut [u8], at: usize, b: u8) -> usize {
