@@ -7,6 +7,7 @@ use crate::places::on_rim;
 use crate::pre_filter::has_room;
 use crate::pre_filter::roof_of;
 use crate::pre_filter::within;
+use crate::slices::change_byte;
 use crate::slices::index;
 use crate::soundness::wide;
 use field::NONE;
@@ -261,8 +262,9 @@ fn clear_inner(
             height,
             climb,
         };
-        let judged = judge(floors, ceilings, nexts, sides, hollow, st, areas[i]);
-        areas[i] = judged.area;
+        let area = areas[i];
+        let judged = judge(floors, ceilings, nexts, sides, hollow, st, area);
+        change_byte(areas, i, area, judged.area);
         sides = judged.sides;
         at = next;
     }

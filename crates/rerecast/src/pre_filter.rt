@@ -5,6 +5,7 @@ use crate::admission::Admission;
 use crate::admission::admit;
 use crate::admission::columns_of;
 use crate::ledges::clear_columns;
+use crate::slices::change_byte;
 use crate::slices::index;
 use crate::soundness::wide;
 use field::NONE;
@@ -86,7 +87,7 @@ fn raise_column(ceilings: &[u16], areas: &mut [u8], nexts: &[u32], head: u32, cl
         let i = index(at);
         let ceiling = ceilings[i];
         let area = areas[i];
-        areas[i] = raise(climb, base, ground, ceiling, area);
+        change_byte(areas, i, area, raise(climb, base, ground, ceiling, area));
         base = ceiling;
         ground = area;
         at = nexts[i];

@@ -1,8 +1,8 @@
-// Numbers as indices, and slices filled with one value.
+// Numbers as indices, slices filled with one value, and a byte changed.
 use field::NONE;
 ghost use mathlib.Core.Path.{_≡_};
 ghost use Prim.Native.Nat.{ℕ, _<_, _≤_};
-ghost use lib.ListN.{length, getD, replicate};
+ghost use lib.ListN.{length, getD, set, replicate};
 ghost use Rattle.field.specs.Slots.{none};
 ghost use Rattle.field.specs.Inner.{after};
 
@@ -19,6 +19,16 @@ pub(crate) fn clear_bytes(s: &mut [u8])
     while i < s.len() {
         s[i] = 0;
         i += 1;
+    }
+}
+
+// Puts a number where `old` stands. Most areas stay as they are, and then nothing is written.
+pub(crate) fn change_byte(s: &mut [u8], i: usize, old: u8, new: u8)
+    requires { ⌜ (i < length (now s)) × (getD (now s) i 0 ≡ old) ⌝ }
+    ensures { λ _. ⌜ now (s .exit) ≡ set (now (s .entry)) i new ⌝ }
+{
+    if new != old {
+        s[i] = new;
     }
 }
 

@@ -1,6 +1,6 @@
 -- `clear_inner` meets its contract: what is left of the column ends as the whole would, and a cursor in each column beside serves an agent that stands there.
 use Prim.Native.Nat.{ℕ, _<_, _≤_}
-use mathlib.Core.Path.{_≡_, sym, ap, subst, _∙_}
+use mathlib.Core.Path.{_≡_, sym, ap, subst, _∙_, refl}
 use mathlib.Core.List.{List, map}
 use lib.ListN.{length, getD}
 use native.Mathlib.Omega.{arith}
@@ -76,14 +76,14 @@ roof-of-requires c κs = λ n.
     let i = c .before .index .ensures in
     rw i (omega (arith, upward-next (walk (c .before .before .before) .up) (c .before .before .loop-test .taken) (rw i at n), c .before .before .before .before .before .before .before .before .before .before .before .before .pre .1 .1 .2 .1 .sized .floors))
 
-mul-t22 : tie.Need-mul-t22 Inv-loop μ-loop
-mul-t22 c = omega (arith, slot (c .before .before .before))
+mul-t23 : tie.Need-mul-t23 Inv-loop μ-loop
+mul-t23 c = omega (arith, slot (c .before .before .before))
 
-shared-slice-read-t26 : tie.Need-shared-slice-read-t26 Inv-loop μ-loop
-shared-slice-read-t26 c = omega (arith, slot (c .before .before .before .before), c .before .before .before .before .before .before .before .before .before .before .before .before .before .before .pre .1 .1 .2 .1 .sized .ceilings)
+shared-slice-read-t27 : tie.Need-shared-slice-read-t27 Inv-loop μ-loop
+shared-slice-read-t27 c = omega (arith, slot (c .before .before .before .before), c .before .before .before .before .before .before .before .before .before .before .before .before .before .before .pre .1 .1 .2 .1 .sized .ceilings)
 
-slice-read-judge : tie.Need-slice-read-judge Inv-loop μ-loop
-slice-read-judge c = omega (arith, slot (c .before .before .before .before .before), walk (c .before .before .before .before .before .before) .up .size, c .before .before .before .before .before .before .before .before .before .before .before .before .before .before .before .pre .1 .0)
+slice-read-area : tie.Need-slice-read-area Inv-loop μ-loop
+slice-read-area c = omega (arith, slot (c .before .before .before .before .before), walk (c .before .before .before .before .before .before) .up .size, c .before .before .before .before .before .before .before .before .before .before .before .before .before .before .before .pre .1 .0)
 
 judge-requires : tie.Need-judge-requires Inv-loop μ-loop
 judge-requires c κs =
@@ -91,21 +91,21 @@ judge-requires c κs =
     let H = p .2 .1 in
     ((H .sized .floors, H .sized .ceilings), (p .1, spans (p .2 .0), c .before .before .before .before .before .before .before .before .before .before .before .before .before .before .before .args .width, c .before .before .before .before .before .before .before .before .before .before .before .before .before .before .before .args .column, rw (c .before .before .before .before .index .ensures) (ledging-serves (walk (c .before .before .before .before .before .before)) (c .before .before .before .before .before .loop-test .taken))))
 
-slice-write-areas : tie.Need-slice-write-areas Inv-loop μ-loop
-slice-write-areas c = omega (arith, slot (c .before .before .before .before .before .before), walk (c .before .before .before .before .before .before .before) .up .size, c .before .before .before .before .before .before .before .before .before .before .before .before .before .before .before .before .pre .1 .0)
+change-byte-requires : tie.Need-change-byte-requires Inv-loop μ-loop
+change-byte-requires c κs = (omega (arith, slot (c .before .before .before .before .before .before .before), walk (c .before .before .before .before .before .before .before .before) .up .size, c .before .before .before .before .before .before .before .before .before .before .before .before .before .before .before .before .before .pre .1 .0), refl)
 
 loop-less : tie.Need-loop-less Inv-loop μ-loop
-loop-less c = rw (c .before .before .before .before .before .before .index .ensures) (upward-less (walk (c .before .before .before .before .before .before .before .before) .up) (c .before .before .before .before .before .before .before .loop-test .taken))
+loop-less c = rw (c .before .before .before .before .before .before .before .before .before .before .index .ensures) (upward-less (walk (c .before .before .before .before .before .before .before .before .before .before .before .before) .up) (c .before .before .before .before .before .before .before .before .before .before .before .loop-test .taken))
 
 loop-again : tie.Need-loop-again Inv-loop μ-loop
 loop-again c = λ free arf f H.
-    let i = c .before .before .before .before .before .before .index .ensures in
-    let s = c .before .before .before .before .before .before .before .before .before .before .before .before .before .before .before .before .before in
-    let n = c .before .before .before .before .before .before .before .loop-test .taken in
-    let p = c .before .before .before .before .before .before .before .before .loop .inv free arf f H in
-    let j = (rw (c .before .before .before .before .roof-of .ensures, i) at (c .before .judge .ensures)) arf (spans f) (s .args .width) (s .args .column) (ledging-serves p n) in
+    let i = c .before .before .before .before .before .before .before .before .before .before .index .ensures in
+    let s = c .before .before .before .before .before .before .before .before .before .before .before .before .before .before .before .before .before .before .before .before .before in
+    let n = c .before .before .before .before .before .before .before .before .before .before .before .loop-test .taken in
+    let p = c .before .before .before .before .before .before .before .before .before .before .before .before .loop .inv free arf f H in
+    let j = (rw (c .before .before .before .before .before .before .before .before .roof-of .ensures, i) at (c .before .before .before .before .before .judge .ensures)) arf (spans f) (s .args .width) (s .args .column) (ledging-serves p n) in
     let inside = around-inside (s .args .width) (s .args .column) (length (s .args .heads .now)) (s .pre .0 .2) (s .pre .0 .3) (omega (arith, s .pre .0 .4)) in
-    rw i (ledging-step p n (j .1 inside (hollow-is (c .before .before .before .before .before .before .before .before .before) free arf f H)) (j .0))
+    rw (c .before .before .before .change-byte .ensures, i) (ledging-step p n (j .1 inside (hollow-is (c .before .before .before .before .before .before .before .before .before .before .before .before .before) free arf f H)) (j .0))
 
 same-length : tie.Need-same-length Inv-loop μ-loop
 same-length c = walk (c .before) .up .size
@@ -128,11 +128,11 @@ clear-inner-spec =
     mul-next
     shared-slice-read-next
     roof-of-requires
-    mul-t22
-    shared-slice-read-t26
-    slice-read-judge
+    mul-t23
+    shared-slice-read-t27
+    slice-read-area
     judge-requires
-    slice-write-areas
+    change-byte-requires
     loop-less
     loop-again
     same-length

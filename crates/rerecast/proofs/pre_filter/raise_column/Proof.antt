@@ -44,25 +44,25 @@ slice-read-area c = omega (arith, slot (c .before .before .before), c .before .b
 raise-requires : tie.Need-raise-requires Inv-loop μ-loop
 raise-requires c κs = search needs
 
-slice-write-areas : tie.Need-slice-write-areas Inv-loop μ-loop
-slice-write-areas c = omega (arith, slot (c .before .before .before .before), c .before .before .before .before .before .loop .inv [] .0 .size)
+change-byte-requires : tie.Need-change-byte-requires Inv-loop μ-loop
+change-byte-requires c κs = (omega (arith, slot (c .before .before .before .before .before), c .before .before .before .before .before .before .loop .inv [] .0 .size), refl)
 
 mul-at : tie.Need-mul-at Inv-loop μ-loop
-mul-at c = omega (arith, slot (c .before .before .before .before))
+mul-at c = omega (arith, slot (c .before .before .before .before .before .before .before .before))
 
 shared-slice-read-at : tie.Need-shared-slice-read-at Inv-loop μ-loop
-shared-slice-read-at c = omega (arith, slot (c .before .before .before .before .before))
+shared-slice-read-at c = omega (arith, slot (c .before .before .before .before .before .before .before .before .before))
 
 loop-less : tie.Need-loop-less Inv-loop μ-loop
-loop-less c = rw (c .before .before .before .before .index .ensures) (upward-less (c .before .before .before .before .before .before .loop .inv [] .0) (c .before .before .before .before .before .loop-test .taken))
+loop-less c = rw (c .before .before .before .before .before .before .before .before .index .ensures) (upward-less (c .before .before .before .before .before .before .before .before .before .before .loop .inv [] .0) (c .before .before .before .before .before .before .before .before .before .loop-test .taken))
 
 loop-again : tie.Need-loop-again Inv-loop μ-loop
 unfolding upward-step
 loop-again c = λ floors.
-    let q = c .before .before .before .before .before .before .loop .inv floors in
-    let at = c .before .before .before .before .before .before .loop .at in
-    rw (c .before .before .before .before .index .ensures)
-    (upward-step (q .0) (c .before .before .before .before .before .loop-test .taken) (λ tl k. (rw (c .before .before .before .before .index .ensures) at (c .before .raise .ensures)) (getD floors at 0) (q .0 .below) (q .1)), (refl, refl))
+    let q = c .before .before .before .before .before .before .before .before .before .before .loop .inv floors in
+    let at = c .before .before .before .before .before .before .before .before .before .before .loop .at in
+    rw (c .before .before .before .change-byte .ensures, c .before .before .before .before .before .before .before .before .index .ensures)
+    (upward-step (q .0) (c .before .before .before .before .before .before .before .before .before .loop-test .taken) (λ tl k. (rw (c .before .before .before .before .before .before .before .before .index .ensures) at (c .before .before .before .before .raise .ensures)) (getD floors at 0) (q .0 .below) (q .1)), (refl, refl))
 
 same-length : tie.Need-same-length Inv-loop μ-loop
 same-length c = c .before .loop .inv [] .0 .size
@@ -82,7 +82,7 @@ raise-column-spec =
     shared-slice-read-ceiling
     slice-read-area
     raise-requires
-    slice-write-areas
+    change-byte-requires
     mul-at
     shared-slice-read-at
     loop-less
