@@ -51,18 +51,15 @@ module _ (tall climb : ℕ) where
   no-room : (o n : Open) → min (topOf o) (topOf n) < max (o .y) (n .y) + tall → passes tall climb o n ≡ false
   no-room o n h = rw (lt-leb (max (o .y) (n .y) + tall) (min (topOf o) (topOf n)) h)
 
-  and-false : (a b : Bool) → b ≡ false → a && b ≡ false
-  and-false true b e = e
-  and-false false b e = cc
-
   too-high : (o n : Open) → o .y + climb < n .y → passes tall climb o n ≡ false
   too-high o n h =
-      and-false (leb (max (o .y) (n .y) + tall) (min (topOf o) (topOf n))) (leb (n .y) (o .y + climb) && leb (o .y) (n .y + climb)) (rw (lt-leb (n .y) (o .y + climb) h))
+      by-test (leb (max (o .y) (n .y) + tall) (min (topOf o) (topOf n))) (λ t. rw (t, lt-leb (n .y) (o .y + climb) h)) (λ t. rw t)
 
   too-deep : (o n : Open) → n .y + climb < o .y → passes tall climb o n ≡ false
   too-deep o n h =
-      and-false (leb (max (o .y) (n .y) + tall) (min (topOf o) (topOf n))) (leb (n .y) (o .y + climb) && leb (o .y) (n .y + climb))
-      (and-false (leb (n .y) (o .y + climb)) (leb (o .y) (n .y + climb)) (lt-leb (o .y) (n .y + climb) h))
+      by-test (leb (max (o .y) (n .y) + tall) (min (topOf o) (topOf n)))
+      (λ t. by-test (leb (n .y) (o .y + climb)) (λ u. rw (t, u, lt-leb (o .y) (n .y + climb) h)) (λ u. rw (t, u)))
+      (λ t. rw t)
 
   pub past-none : (o : Open) (y : ℕ) → past tall climb o y ≡ true → (n : Open) → y ≤ n .y → passes tall climb o n ≡ false
   past-none o y e n h =
