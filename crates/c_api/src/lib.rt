@@ -1,3 +1,4 @@
+#![tactic(auto)]
 // The library for C: every public call under a plain name, over numbers and slices alone. include/lichenvault.h tells a C programmer what each does.
 mod answers;
 pub mod compact_heightfield;

@@ -11,7 +11,7 @@ use super::cut::{Counts, crossing, half_at};
 use grid::Corner;
 
 // How many vertices each part of a cut has, and the least and the greatest y of the first.
-#[derive(Drop)]
+#[derive(Clone, Copy)]
 pub struct Piece {
     pub counts: Counts,
     pub low: f32,

@@ -6,14 +6,14 @@ ghost use Rattle.clip.specs.Arrays.{arrays, vertex_at, polygon_at, written, half
 
 use grid::Corner;
 
-#[derive(Drop)]
+#[derive(Clone, Copy)]
 pub enum Axis {
     X,
     Z,
 }
 
 // How many vertices each part of a cut has.
-#[derive(Drop)]
+#[derive(Clone, Copy)]
 pub struct Counts {
     pub first: usize,
     pub second: usize,

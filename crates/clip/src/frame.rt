@@ -7,7 +7,7 @@ use super::slices::{greatest_of, least_of};
 use grid::Grid;
 
 // What a triangle's work needs of a grid.
-#[derive(Drop)]
+#[derive(Clone, Copy)]
 pub struct Frame {
     pub grid: Grid,
     // 1 / cell size

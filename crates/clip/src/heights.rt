@@ -7,7 +7,7 @@ use super::slices::held;
 const MAX_HEIGHT: u32 = 65535;
 
 // What a cell's part becomes.
-#[derive(Drop)]
+#[derive(Clone, Copy)]
 pub enum Snap {
     // The part lies outside the box: nothing.
     Outside,

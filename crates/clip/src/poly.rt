@@ -9,13 +9,13 @@ use super::cut::Axis;
 use grid::Corner;
 
 // A polygon by value: its vertices are at[0..n].
-#[derive(Drop)]
+#[derive(Clone, Copy)]
 pub struct Poly {
     pub at: [Corner; 7],
     pub n: usize,
 }
 
-#[derive(Drop)]
+#[derive(Clone, Copy)]
 pub enum CutReply {
     // 0
     Fine,
@@ -24,7 +24,7 @@ pub enum CutReply {
 }
 
 // Both parts of a cut, which are empty at reply 6.
-#[derive(Drop)]
+#[derive(Clone, Copy)]
 pub struct Parts {
     pub reply: CutReply,
     pub first: Poly,

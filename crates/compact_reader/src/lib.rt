@@ -1,3 +1,4 @@
+#![tactic(auto)]
 // The readers of a compact result over its lent slices: the cell of a column, and the span to which a link leads. They check the place that they are
 // given, and take what stands in the slices as it is.
 ghost use Rattle.std.specs.Prelude.{◌≡◌, ◌+◌, ◌*◌, ◌<◌, ◌≤◌, min, length, get_or};
@@ -8,7 +9,7 @@ use compact_cell::CompactCell;
 use grid::{Grid, GridReply};
 
 // Why a reader gives no entry.
-#[derive(Drop)]
+#[derive(Clone, Copy)]
 pub enum Refusal {
     // a number outside its limits
     BadNumber(f32),
@@ -22,27 +23,27 @@ pub enum Refusal {
 }
 
 // The column beside, and the number of the span there.
-#[derive(Drop)]
+#[derive(Clone, Copy)]
 pub struct Neighbour {
     pub x: u32,
     pub z: u32,
     pub span: usize,
 }
 
-#[derive(Drop)]
+#[derive(Clone, Copy)]
 pub enum CellAt {
     Cell(CompactCell),
     Refused(Refusal),
 }
 
-#[derive(Drop)]
+#[derive(Clone, Copy)]
 pub enum ConIndices {
     At(Neighbour),
     Refused(Refusal),
 }
 
 // Whether a place is on the grid: its width and height, or the refusal.
-#[derive(Drop)]
+#[derive(Clone, Copy)]
 enum Locus {
     On(u32, u32),
     Off(Refusal),

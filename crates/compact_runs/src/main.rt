@@ -1,3 +1,4 @@
+#![tactic(auto)]
 // Runs of compacting at its limits: a column of 255 floors and one of 256, links to the highest layers, slices that are just long enough, and an agent
 // that is too tall for any link. Two columns lie side by side, and the field is made by the library's own calls.
 mod print;

@@ -1,10 +1,11 @@
+#![tactic(auto)]
 // A span, and the number that stands for no slot. The model of a store of spans and the rules on it are definitions: see specs/.
 
 // The number that a head or a next has where there is no slot.
 pub const NONE: u32 = 4294967295;
 
 // A filled stretch of a column, from its floor to its ceiling, both in it, with the kind of ground on top of it.
-#[derive(Drop)]
+#[derive(Clone, Copy)]
 pub struct Span {
     pub floor: u16,
     pub ceiling: u16,

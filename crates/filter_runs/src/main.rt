@@ -1,3 +1,4 @@
+#![tactic(auto)]
 // The rules' examples of the filters, run: the reply, and the areas that are left.
 use field::NONE;
 use grid::{Corner, Grid};

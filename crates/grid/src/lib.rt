@@ -1,16 +1,17 @@
+#![tactic(auto)]
 // The grid's parameters, the tests that every call with a grid makes of them first, and the grid's size in cells.
 ghost use Rattle.std.specs.Prelude.{◌≡◌, ◌≤◌};
 ghost use Rattle.grid.specs.Grid.{coordinate_ok, cell_ok, across, cells, corner, sizes, numbers, box_above, size_ok, size_says, grid_says};
 ghost use Rattle.grid.specs.Answer.{said_of, Finds};
 
-#[derive(Drop)]
+#[derive(Clone, Copy)]
 pub struct Corner {
     pub x: f32,
     pub y: f32,
     pub z: f32,
 }
 
-#[derive(Drop)]
+#[derive(Clone, Copy)]
 pub struct Grid {
     pub min: Corner,
     pub max: Corner,
@@ -18,7 +19,7 @@ pub struct Grid {
     pub cell_height: f32,
 }
 
-#[derive(Drop)]
+#[derive(Clone, Copy)]
 pub enum GridReply {
     // 0: the width and the height in cells
     Fine(u32, u32),
@@ -31,7 +32,7 @@ pub enum GridReply {
 }
 
 // What a test of several numbers finds.
-#[derive(Drop)]
+#[derive(Clone, Copy)]
 enum Limits {
     Inside,
     // the first that is outside

@@ -1,3 +1,4 @@
+#![tactic(auto)]
 // Meshes run: what the rules say of triangles at the grid's edge, of a full store, of numbers that are none. Each run has its reply, the place of a stop,
 // and the columns that are left.
 use field::NONE;

@@ -1,1 +1,2 @@
+#![tactic(auto)]
 // What a reply says: see specs/.

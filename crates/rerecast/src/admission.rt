@@ -11,7 +11,7 @@ use crate::soundness::is_sound;
 use grid::{Grid, GridReply};
 
 // What the tests find.
-#[derive(Drop)]
+#[derive(Clone, Copy)]
 pub(crate) enum Admission {
     // the grid's width and height
     Granted(u32, u32),

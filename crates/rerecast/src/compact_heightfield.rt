@@ -26,7 +26,7 @@ use grid::Grid;
 // ---- how many open spaces there are
 
 // How many open spaces a field has, unless some column has more than 255.
-#[derive(Drop)]
+#[derive(Clone, Copy)]
 enum Tally {
     Crowded,
     Total(usize),

@@ -70,7 +70,7 @@ fn join(threshold: u16, new: Span, old: Span) -> Span
 }
 
 // Where a walk up a column stops: the slot before, and the slot there.
-#[derive(Drop)]
+#[derive(Clone, Copy)]
 struct Place {
     before: u32,
     at: u32,
@@ -96,7 +96,7 @@ fn pass(ceilings: &[u16], nexts: &[u32], head: u32, floor: u16) -> Place
 }
 
 // What a run of merges leaves: the widened span, the first slot above it, and how many were merged.
-#[derive(Drop)]
+#[derive(Clone, Copy)]
 struct Merged {
     span: Span,
     next: u32,
@@ -188,7 +188,7 @@ fn link(heads: &mut [u32], nexts: &mut [u32], column: usize, before: u32, s: u32
 }
 
 // How an insertion went.
-#[derive(Drop)]
+#[derive(Clone, Copy)]
 pub(crate) enum Landing {
     // the slot that the span landed in, and how many spans it merged
     Landed { slot: u32, merged: u32 },

@@ -20,7 +20,7 @@ use crate::soundness::wide;
 use field::NONE;
 
 // Where an agent stands: the ceiling of a span and the floor above it, with the walkable height and the climb.
-#[derive(Drop)]
+#[derive(Clone, Copy)]
 struct Stand {
     top: u16,
     roof: u16,
@@ -29,7 +29,7 @@ struct Stand {
 }
 
 // What a look at neighbour spans has found: a drop, or the least and the greatest ceiling that can be stepped to.
-#[derive(Drop)]
+#[derive(Clone, Copy)]
 struct View {
     drop: bool,
     low: u16,
@@ -37,7 +37,7 @@ struct View {
 }
 
 // A slot in each column beside: nothing below it can be stepped to any more.
-#[derive(Drop)]
+#[derive(Clone, Copy)]
 struct Sides {
     west: u32,
     north: u32,
@@ -46,7 +46,7 @@ struct Sides {
 }
 
 // A span's area afterwards, and how far the slots beside have moved up.
-#[derive(Drop)]
+#[derive(Clone, Copy)]
 struct Judged {
     area: u8,
     sides: Sides,

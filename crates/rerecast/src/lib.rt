@@ -1,3 +1,4 @@
+#![tactic(auto)]
 // The build over lent slices, module by module as in the Rust. Whoever calls lends every slice, and no call asks for anything: what does not fit is
 // answered with its number.
 mod admission;
@@ -20,7 +21,7 @@ ghost use Rattle.std.specs.Prelude.{◌≡◌};
 ghost use Rattle.rerecast.specs.Answer.{said_of};
 
 // What a call answers. specs/Answer.antt gives the number and the values of each.
-#[derive(Drop)]
+#[derive(Clone, Copy)]
 pub enum Reply {
     Accepted,
     // a number outside its limits

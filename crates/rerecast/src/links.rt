@@ -15,7 +15,7 @@ use crate::soundness::wide;
 use compact_span::CompactSpan;
 
 // An open space, and what an agent there needs: the walkable height and the climb.
-#[derive(Drop)]
+#[derive(Clone, Copy)]
 struct Post {
     y: u16,
     height: u8,
@@ -24,7 +24,7 @@ struct Post {
 }
 
 // The link in one direction, the layer that it misses, and the layer that was come to: those below it are out of reach for the rest of the column.
-#[derive(Drop)]
+#[derive(Clone, Copy)]
 struct Found {
     layer: u8,
     missed: u8,
@@ -33,7 +33,7 @@ struct Found {
 
 // By direction, how far the layers of the cell beside are out of reach for the rest of the column. A column's open spaces are linked from the lowest
 // up, so what one of them has left behind the next need not look at, and the links of a column are linear in floors.
-#[derive(Drop)]
+#[derive(Clone, Copy)]
 struct Cursors {
     from0: u8,
     from1: u8,
@@ -42,7 +42,7 @@ struct Cursors {
 }
 
 // An open space's word, the largest layer that its links miss, and the cursors for the next one.
-#[derive(Drop)]
+#[derive(Clone, Copy)]
 struct Bound {
     word: u32,
     missed: u8,
@@ -97,7 +97,7 @@ fn is_past(q: Post, y: u16) -> bool
 }
 
 // How far a look through the layers of a cell went: to layer `at`, which an agent passes to, or beyond which it passes to none.
-#[derive(Drop)]
+#[derive(Clone, Copy)]
 struct Look {
     at: u8,
     passes: bool,

@@ -48,7 +48,7 @@ fn all_named(indices: &[u32], count: usize) -> bool
 }
 
 // What a test of the vertex numbers finds.
-#[derive(Drop)]
+#[derive(Clone, Copy)]
 enum Limits {
     Inside,
     // the first that is outside

@@ -4,7 +4,7 @@ ghost use Rattle.field.specs.Inner.{Says};
 ghost use Rattle.field.specs.FilterCode.{Rim};
 
 // A place on the grid.
-#[derive(Drop)]
+#[derive(Clone, Copy)]
 pub(crate) struct Cell {
     pub x: usize,
     pub z: usize,

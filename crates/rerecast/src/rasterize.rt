@@ -107,7 +107,7 @@ fn triangle_at(
 }
 
 // How a mesh ended: all of it was placed, or it stopped at a triangle, with so many of that triangle's insertions made.
-#[derive(Drop)]
+#[derive(Clone, Copy)]
 pub(crate) enum Ending {
     Placed,
     Halted(Stop, u32, u32),

@@ -8,14 +8,14 @@ use crate::slices::index;
 use field::NONE;
 
 // A cell beside: the place of its first open space, and how many it has.
-#[derive(Drop)]
+#[derive(Clone, Copy)]
 pub(crate) struct Side {
     pub first: usize,
     pub count: u8,
 }
 
 // The cells beside a column, by direction.
-#[derive(Drop)]
+#[derive(Clone, Copy)]
 pub(crate) struct Around {
     pub side0: Side,
     pub side1: Side,

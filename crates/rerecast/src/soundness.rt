@@ -11,7 +11,7 @@ use crate::slices::{clear_bytes, index};
 use field::NONE;
 
 // How a walk along chains went.
-#[derive(Drop)]
+#[derive(Clone, Copy)]
 enum Tally {
     // how many slots are marked by now
     Marked(usize),

@@ -9,7 +9,7 @@ use clip::cut::Counts;
 use clip::frame::Frame;
 
 // Why the work of a triangle stopped.
-#[derive(Drop)]
+#[derive(Clone, Copy)]
 pub(crate) enum Stop {
     NoSlot,
     EighthVertex,
@@ -17,14 +17,14 @@ pub(crate) enum Stop {
 }
 
 // How far the work of a triangle went, and how many of its insertions were made.
-#[derive(Drop)]
+#[derive(Clone, Copy)]
 pub(crate) enum Step {
     Went(u32),
     Stopped(Stop, u32),
 }
 
 // What stays the same over a triangle's work.
-#[derive(Drop)]
+#[derive(Clone, Copy)]
 pub(crate) struct Job {
     pub frame: Frame,
     pub area: u8,
@@ -32,7 +32,7 @@ pub(crate) struct Job {
 }
 
 // What a cut gives to a row or a column.
-#[derive(Drop)]
+#[derive(Clone, Copy)]
 pub(crate) enum Part {
     // a part would have an eighth vertex
     Eighth,

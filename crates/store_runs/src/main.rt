@@ -1,3 +1,4 @@
+#![tactic(auto)]
 // Runs of the store of spans that a simulator that grows its store never makes: full stores, a store of one slot, slices and grids that do not fit, and
 // fields damaged in every way. Each line has the call, the number of its reply, and what is left.
 use field::Span;

@@ -1,3 +1,4 @@
+#![tactic(auto)]
 // A bench for the floor map: a scenario on standard input, a command a line, and the answers on standard output. oracle/README.md has the commands and the
 // answers; `help` lists them. Lines that cannot be read are named by their number, and the run goes on.
 mod answers;

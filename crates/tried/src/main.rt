@@ -1,3 +1,4 @@
+#![tactic(auto)]
 // The rules' examples, run: a line each with its name, what the rules say, and what the library does.
 mod columns;
 mod floors;
