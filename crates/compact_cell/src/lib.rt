@@ -1,3 +1,4 @@
+#![tactic(auto)]
 // A compact cell: the place of a column's first compact span, and how many spans the column has.
 // A cell is lent, and its count is raised in place.
 ghost use Rattle.std.specs.Prelude.{◌≡◌, ◌+◌};

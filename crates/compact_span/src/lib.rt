@@ -1,3 +1,4 @@
+#![tactic(auto)]
 // A compact span: the height where its open space starts, and one word that packs four links of six bits and a height of eight.
 ghost use Rattle.std.specs.Prelude.{◌≡◌, [], ◌∷◌, ◌+◌, ◌*◌, ◌^◌, ◌<◌};
 ghost use Rattle.compact_span.specs.Word.{word, height_of, gap_of, held};
