@@ -1,3 +1,4 @@
+#![tactic(auto)]
 // Floats to whole numbers, and the lesser and the greater of two floats. Every `f32` has an answer.
 ghost use Rattle.std.specs.Prelude.{◌≡◌, ◌+◌, ◌*◌, ◌^◌, ◌≤◌, true, false, T, pos};
 ghost use Rattle.std.specs.Float.Ieee as Ieee;
