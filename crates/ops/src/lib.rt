@@ -104,6 +104,7 @@ pub fn ceil(x: f32) -> i32
     0
 }
 
+#[tactic(auto, using(crate::proofs::Choice::first, crate::proofs::Choice::second), unfolding(crate::specs::Order::lesser_of))]
 pub fn lesser(a: f32, b: f32) -> f32
     ensures { result ≡ lesser_of a b }
 {
@@ -113,6 +114,7 @@ pub fn lesser(a: f32, b: f32) -> f32
     a
 }
 
+#[tactic(auto, using(crate::proofs::Choice::first, crate::proofs::Choice::second), unfolding(crate::specs::Order::greater_of))]
 pub fn greater(a: f32, b: f32) -> f32
     ensures { result ≡ greater_of a b }
 {
