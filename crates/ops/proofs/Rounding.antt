@@ -1,5 +1,5 @@
 -- Truncation, floor and ceil by the tests of x against 0, 1 and 2 ^ h. Each is one rounding, `rounded`, that differs only in what it does with a fraction of either sign.
-use Rattle.std.proofs.Common.{◌≡◌, ℕ, ◌-◌, ◌*◌, ◌/◌, ◌^◌, ◌<◌, ◌≤◌, min, Bool, true, false, not, ℤ, pos, negsuc, neg_ℤ, sym, refl, ap, ◌∙◌, subst, true≢false, le_trans, le_refl, one-mul, le-div_iff_mul-le, arith, pow_pos, pow_mono}
+use Rattle.std.proofs.Common.{◌≡◌, ℕ, ◌*◌, ◌/◌, ◌^◌, ◌<◌, ◌≤◌, min, Bool, true, false, ℤ, pos, negsuc, neg_ℤ, sym, refl, ap, ◌∙◌, subst, true≢false, le_trans, le_refl, one-mul, le-div_iff_mul-le, arith, pow_pos, pow_mono}
 use native.Mathlib.Nat.{div-eq_of_lt}
 use lib.Signed.{mag}
 use lib.Ieee.{Float, nan, inf, fin, up, down, lt, le, eq, neg, to_signed}

@@ -1,3 +1,4 @@
+#![tactic(auto)]
 // Floats to whole numbers, and the lesser and the greater of two floats. Every `f32` has an answer.
 ghost use Rattle.std.specs.Prelude.{◌≡◌, ◌+◌, ◌*◌, ◌^◌, ◌≤◌, true, false, T, pos};
 ghost use Rattle.std.specs.Float.Ieee as Ieee;
@@ -103,6 +104,7 @@ pub fn ceil(x: f32) -> i32
     0
 }
 
+#[tactic(auto, using(crate::proofs::Choice::first, crate::proofs::Choice::second), unfolding(crate::specs::Order::lesser_of))]
 pub fn lesser(a: f32, b: f32) -> f32
     ensures { result ≡ lesser_of a b }
 {
@@ -112,6 +114,7 @@ pub fn lesser(a: f32, b: f32) -> f32
     a
 }
 
+#[tactic(auto, using(crate::proofs::Choice::first, crate::proofs::Choice::second), unfolding(crate::specs::Order::greater_of))]
 pub fn greater(a: f32, b: f32) -> f32
     ensures { result ≡ greater_of a b }
 {
