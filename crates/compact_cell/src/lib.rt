@@ -5,35 +5,35 @@ ghost use Rattle.std.specs.Prelude.{◌≡◌, ◌+◌};
 ghost use Rattle.compact_cell.specs.Cell.{cell_of, count_after, raised_cell, raised_counts};
 ghost use Rattle.compact_cell.specs.Replies.{said_of, said_of_at, raise_says, raise_at_says};
 
-#[derive(Drop)]
+#[derive(Clone, Copy)]
 pub struct CompactCell {
     pub index: u32,
     pub count: u8,
 }
 
 // The places of a cell's spans: from `start`, and before `end`.
-#[derive(Drop)]
+#[derive(Clone, Copy)]
 pub struct IndexRange {
     pub start: usize,
     pub end: usize,
 }
 
 // The answer where a cell's count is raised: `Full` is reply 11.
-#[derive(Drop)]
+#[derive(Clone, Copy)]
 pub enum Raised {
     Yes,
     Full,
 }
 
 // A cell with the answer beside it.
-#[derive(Drop)]
+#[derive(Clone, Copy)]
 pub struct RaisedCell {
     pub cell: CompactCell,
     pub reply: Raised,
 }
 
 // The answer where the cell stands at a place of lent slices: `NoCell` is reply 4.
-#[derive(Drop)]
+#[derive(Clone, Copy)]
 pub enum RaisedAt {
     Cell(Raised),
     NoCell,

@@ -5,28 +5,28 @@ ghost use Rattle.compact_span.specs.Word.{word, height_of, gap_of, held};
 ghost use Rattle.compact_span.specs.Span.{fresh_span, with_link, with_height};
 ghost use Rattle.compact_span.specs.Replies.{said_of_linked, said_of_con, set_con_says, con_says};
 
-#[derive(Drop)]
+#[derive(Clone, Copy)]
 pub struct CompactSpan {
     pub y: u16,
     pub data: u32,
 }
 
 // Where a direction leads: nowhere, or to a layer of the neighbour cell.
-#[derive(Drop)]
+#[derive(Clone, Copy)]
 pub enum Link {
     Empty,
     To(u8),
 }
 
 // The answer of `set_con`: `Refused` is reply 13.
-#[derive(Drop)]
+#[derive(Clone, Copy)]
 pub enum Linked {
     Set(CompactSpan),
     Refused,
 }
 
 // The answer of `con`: `Refused` is reply 13.
-#[derive(Drop)]
+#[derive(Clone, Copy)]
 pub enum Con {
     Link(Link),
     Refused,
