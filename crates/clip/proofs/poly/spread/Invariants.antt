@@ -1,0 +1,15 @@
+-- `clip::poly::spread` meets its contract. The loop's invariant: the vertices from i on, written where they belong, leave what all of them leave.
+use borrow.Author.Rules.{rules}
+use mathlib.Core.Path.{◌≡◌, refl, ap, ◌∙◌}
+use Prim.Native.Nat.{◌+◌, ◌-◌, ◌≤◌}
+use native.Mathlib.Omega.{arith}
+use lib.ListN.{length, length-map, take, drop}
+use Rattle.clip.specs.Arrays.{Arrays, arrays, written}
+use Rattle.clip.proofs.Polys.{spread-turn, spread_end}
+use Rattle.clip.proofs.poly.spread.Given as goal
+
+abbrev pub invariant-loop-i : goal.invariant-loop-i
+invariant-loop-i l = (l.i ≤ l.n) × (written (arrays l.xs l.ys l.zs) l.i (drop l.i (take l.n l.p.at)) ≡ written (arrays l.initial.xs l.initial.ys l.initial.zs) 0 (take l.n l.p.at))
+
+abbrev pub decreases-loop-i : goal.decreases-loop-i
+decreases-loop-i l = l.n - l.i
