@@ -1,4 +1,4 @@
--- `grid::box_above` meets its contract.
+-- The tests are those of the definition, axis by axis.
 use Rattle.grid.specs.Grid.{box_above}
 use Rattle.grid.proofs.box_above.Goals as goal
 

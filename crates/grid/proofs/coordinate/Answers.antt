@@ -1,4 +1,4 @@
--- `grid::coordinate` meets its contract.
+-- The two tests are those of the definition, whose limits are the code's literals.
 use lib.Ieee.{of_bits, neg, le, fin}
 use mathlib.Core.Bool.{false}
 use lib.IntN.{pos}

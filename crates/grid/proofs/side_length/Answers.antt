@@ -1,4 +1,4 @@
--- `grid::side_length` meets its contract.
+-- The code's operations are the definition's, and its literal is one half.
 use mathlib.Core.Path.{refl}
 use lib.Ieee.{of_bits}
 use Rattle.grid.specs.Grid.{across}

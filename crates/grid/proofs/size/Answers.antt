@@ -1,12 +1,10 @@
--- `grid::size` meets its contract.
-use borrow.Author.Rules.{rules}
+-- The two counts are the grid's width and height, and what is tested of them is the definition's test.
 use mathlib.Core.Path.{◌≡◌, ◌∙◌, ap}
 use Rattle.grid.specs.Grid.{cells, width, height, size_says}
 use Rattle.grid.proofs.Cells.{width-le, height-le}
 use Rattle.grid.proofs.size.Goals as goal
 use Rattle.grid.proofs.size.Goals.{After-cell_count-high}
 
--- the two counts are the grid's width and height
 wide : (c : After-cell_count-high) → c.cell_count-wide.result ≡ width c.args.g
 unfolding width
 wide c = c.cell_count-wide.ensures ∙ ap cells c.side_length-w.ensures
@@ -20,10 +18,13 @@ size_ok-requires c = (rw (wide c) (width-le _), rw (high c) (height-le _))
 
 pub returns-then-size_ok : goal.returns-then-size_ok
 unfolding size_says
-returns-then-size_ok c = rw (← (wide c.before.before), ← (high c.before.before), ← c.size_ok.ensures, c.if-size_ok.true)
+returns-then-size_ok c =
+    let d = c.before.before in
+    rw (← (wide d), ← (high d), ← c.size_ok.ensures, c.if-size_ok.true)
 
 pub returns : goal.returns
 unfolding size_says
 returns c =
+    let d = c.before.before in
     rw (c.side_length-w.ensures, c.side_length-h.ensures)
-    (rw (← (wide c.before.before), ← (high c.before.before), ← c.size_ok.ensures, c.if-size_ok.false))
+    (rw (← (wide d), ← (high d), ← c.size_ok.ensures, c.if-size_ok.false))

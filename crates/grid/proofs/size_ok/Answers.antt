@@ -1,10 +1,9 @@
--- `grid::size_ok` meets its contract.
+-- The tests are those of the definition.
 use mathlib.Core.Bool.{and-false}
 use native.Mathlib.Omega.{arith}
 use lib.Dec.{ltb}
 use borrow.Author.Tests.{lt-ltb}
 use Rattle.grid.specs.Grid.{size_ok}
-use Rattle.grid.proofs.Cells.{product-fits}
 use Rattle.grid.proofs.size_ok.Goals as goal
 
 pub returns-then-wide-eq0 : goal.returns-then-wide-eq0
@@ -14,9 +13,6 @@ returns-then-wide-eq0 c = rw c.if-wide-eq0.true
 pub returns-then-high-eq0 : goal.returns-then-high-eq0
 unfolding size_ok
 returns-then-high-eq0 c = rw (c.if-high-eq0.true, and-false (ltb 0 c.args.wide))
-
-pub overflow_mul-result : goal.overflow_mul-result
-overflow_mul-result c = record { fits = product-fits _ _ c.requires.0 c.requires.1 }
 
 pub returns : goal.returns
 unfolding size_ok
