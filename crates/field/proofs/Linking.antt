@@ -1,5 +1,5 @@
 -- A slot linked into a column, between the spans below it and those above.
-use mathlib.Core.Path.{◌≡◌}
+use mathlib.Core.Path.{◌≡◌, sym, subst}
 use mathlib.Core.Logic.{◌≢◌}
 use mathlib.Core.List.{List, [], ◌∷◌, ◌++◌}
 use Prim.Native.Nat.{ℕ, ◌+◌, ◌<◌, ◌≤◌}
@@ -40,11 +40,14 @@ run-column-cons heads nx i k low s e rest few lt under above d =
     let p = last_or k low in
     let there : p ≢ none = λ q. omega (arith, run-last nx (get_or heads i 0) k low e under) in
     let inside : 0 < times p (k ∷ low) = last-in k low in
-    rw (ne_eqb p none there)
+    let at : link_nexts nx₂ p s ≡ set nx₂ p s = rw (ne_eqb p none there) in
+    let from : link_heads heads i p s ≡ heads = rw (ne_eqb p none there) in
+    subst (λ (ys : List ℕ). Run ys (get_or (link_heads heads i p s) i 0) (k ∷ low ++ s ∷ rest) none) (sym at)
+    (subst (λ (hs : List ℕ). Run (set nx₂ p s) (get_or hs i 0) (k ∷ low ++ s ∷ rest) none) (sym from)
     (run_join (set nx₂ p s) (get_or heads i 0) (k ∷ low) (s ∷ rest) s none
     (run-relink nx₂ (get_or heads i 0) k low e s (λ x. omega (arith, d x))
     (run-set nx s (first_or none rest) (get_or heads i 0) (k ∷ low) e (omega (arith, d s, same_refl s)) under))
-    (run-set nx₂ p s s (s ∷ rest) none (omega (arith, d p)) (run-front nx s (first_or none rest) rest none lt (omega (arith, d s, same_refl s)) above)))
+    (run-set nx₂ p s s (s ∷ rest) none (omega (arith, d p)) (run-front nx s (first_or none rest) rest none lt (omega (arith, d s, same_refl s)) above))))
 
 -- the column with slot s in it
 pub run-column : (heads nx : List ℕ) (i : ℕ) (low : List ℕ) (s e : ℕ) (rest : List ℕ)
