@@ -12,7 +12,7 @@ use Rattle.field.specs.Slots.{contents, span_at, slots}
 use Rattle.field.specs.Field.{Field, column_at, Holds}
 use Rattle.field.specs.Inner.{Chain}
 use Rattle.field.specs.Open.{Open, opens, columns_of, cells, index_of, indices}
-use Rattle.field.specs.Compact.{Rows, Result, result, Room, Few}
+use Rattle.field.specs.Compact.{Rows, Result, result_of, Room, Few}
 use Rattle.field.specs.Rowing.{laid, raised_by, Layable, Laid, Filled}
 use Rattle.field.proofs.Holding.{column-chain}
 use Rattle.field.proofs.Lists.{flatten-next, flatten-split}
@@ -66,7 +66,7 @@ module _ {heads : List ℕ} {free : ℕ} {fl ce ar nx : List ℕ} {f : Field} (H
   cell-few few = omega (arith, few i in_cells, ap length (cell-spans H i))
 
   -- so it can be stored once its count is 0
-  pub cell-layable : {t₀ : Result} {ix sz : List ℕ} {t : Rows} {k : ℕ} → Few (cells (columns_of f)) → Room (length (flatten (cells (columns_of f)))) t₀.rows → i < length sz → Shape heads t₀ (result ix sz t) i k → Filling (columns_of f) t₀ (result ix sz t) i k → Layable (contents fl ce ar) (column_at f i) t k (set sz i 0) i
+  pub cell-layable : {t₀ : Result} {ix sz : List ℕ} {t : Rows} {k : ℕ} → Few (cells (columns_of f)) → Room (length (flatten (cells (columns_of f)))) t₀.rows → i < length sz → Shape heads t₀ (result_of ix sz t) i k → Filling (columns_of f) t₀ (result_of ix sz t) i k → Layable (contents fl ce ar) (column_at f i) t k (set sz i 0) i
   cell-layable {sz = sz} few room cell p q =
       record {
         room = room-alike (cell_room q.place) p.rows room;
@@ -98,7 +98,7 @@ module _ {heads : List ℕ} {free : ℕ} {fl ce ar nx : List ℕ} {f : Field} (H
         let n : k' - k ≡ length (opens (get_or (columns_of f) i [])) = omega (arith, stored-place) in
         e ∙ ap (λ (m : ℕ). cond (eqb m 0) 0 k) n
 
-    pub filling_step : {t₀ : Result} {ix : List ℕ} (v : ℕ) → Filling (columns_of f) t₀ (result ix sz t) i k → v ≡ index_of k (get_or (columns_of f) i []) → Filling (columns_of f) t₀ (result (set ix i v) sz' t') (suc i) k'
+    pub filling_step : {t₀ : Result} {ix : List ℕ} (v : ℕ) → Filling (columns_of f) t₀ (result_of ix sz t) i k → v ≡ index_of k (get_or (columns_of f) i []) → Filling (columns_of f) t₀ (result_of (set ix i v) sz' t') (suc i) k'
     filling_step v p ev =
         let c = get_or (columns_of f) i [] in
         let cs = drop (suc i) (columns_of f) in
@@ -110,7 +110,7 @@ module _ {heads : List ℕ} {free : ℕ} {fl ce ar nx : List ℕ} {f : Field} (H
           place = omega (arith, p.place, stored-place, flatten-next (cells (columns_of f)) i in_cells, ap length (cell_at (columns_of f) i));
         }
 
-    pub shape-step : {t₀ : Result} {ix : List ℕ} (v : ℕ) → Shape heads t₀ (result ix sz t) i k → length (opens (map (span_at (contents fl ce ar)) (column_at f i))) ≤ 255 → Shape heads t₀ (result (set ix i v) sz' t') (suc i) k'
+    pub shape-step : {t₀ : Result} {ix : List ℕ} (v : ℕ) → Shape heads t₀ (result_of ix sz t) i k → length (opens (map (span_at (contents fl ce ar)) (column_at f i))) ≤ 255 → Shape heads t₀ (result_of (set ix i v) sz' t') (suc i) k'
     shape-step {ix = ix} v p few =
         record {
           within = l;

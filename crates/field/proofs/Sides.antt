@@ -17,7 +17,7 @@ use Rattle.field.specs.Slots.{none}
 use Rattle.field.specs.Beside.{beside}
 use Rattle.field.specs.Open.{Open, cells}
 use Rattle.field.specs.Links.{passes, lowest, link, missed, around, word_of, missed_of, for_each, words}
-use Rattle.field.specs.Compact.{Rows, rows, Result, result, complete}
+use Rattle.field.specs.Compact.{Rows, rows, Result, result_of, complete}
 use Rattle.field.specs.Rowing.{bare_word, Filled, shown, bare, Climbs, Shown}
 use Rattle.field.proofs.Basics.{by-test, by-dec}
 use Rattle.field.proofs.Lists.{flatten-cons, sets_over}
@@ -108,11 +108,11 @@ for_each-length g i [] = refl
 for_each-length g i (c ∷ cs) =
     omega (arith, length-append (map (g i) c) (for_each g (suc i) cs), flatten-cons c cs, length-map c (g i), for_each-length g (suc i) cs)
 
-pub completed : (pass : Open → Open → Bool) (w h : ℕ) (columns : List (List Span)) {t₀ t : Result} {ws : List ℕ} → Filled columns t₀ t → ws ≡ sets t.rows.words 0 (words pass w h (cells columns)) → result t.indices t.counts (rows t.rows.ys ws t.rows.areas) ≡ complete pass w h columns t₀
+pub completed : (pass : Open → Open → Bool) (w h : ℕ) (columns : List (List Span)) {t₀ t : Result} {ws : List ℕ} → Filled columns t₀ t → ws ≡ sets t.rows.words 0 (words pass w h (cells columns)) → result_of t.indices t.counts (rows t.rows.ys ws t.rows.areas) ≡ complete pass w h columns t₀
 completed pass w h columns {t₀} {t} {ws} F e =
     let cs = cells columns in
     let x : t.rows.words ≡ sets t₀.rows.words 0 (map bare_word (flatten cs)) = ap (λ (u : Rows). u.words) F.rows in
     let v : ws ≡ sets t₀.rows.words 0 (words pass w h cs) =
     e ∙ ap (λ (l : List ℕ). sets l 0 (words pass w h cs)) x
     ∙ sets_over t₀.rows.words 0 (map bare_word (flatten cs)) (words pass w h cs) (length-map (flatten cs) bare_word ∙ sym (for_each-length (λ i. word_of pass (around w h cs i)) 0 cs))
-    in λ i. result (F.indices i) (F.counts i) (rows (F.rows i).ys (v i) (F.rows i).areas)
+    in λ i. result_of (F.indices i) (F.counts i) (rows (F.rows i).ys (v i) (F.rows i).areas)

@@ -30,8 +30,8 @@ pub record Result : Type 0 where
   pub counts : List ℕ
   pub rows : Rows
 
-abbrev pub result : List ℕ → List ℕ → Rows → Result
-result indices counts rows = record { indices = indices; counts = counts; rows = rows }
+abbrev pub result_of : List ℕ → List ℕ → Rows → Result
+result_of indices counts rows = record { indices = indices; counts = counts; rows = rows }
 
 -- what reply 4 asks for: a store that fits, and an index and a count for each of `n` columns
 pub record Suiting (n : ℕ) (s : Store) (t : Result) : Type 0 where
@@ -55,7 +55,7 @@ Few cs = (i : ℕ) → i < length cs → length (get_or cs i []) ≤ 255
 abbrev pub complete : (Open → Open → Bool) → ℕ → ℕ → List (List Span) → Result → Result
 complete pass w h columns t =
     let cs = cells columns in
-    result (sets t.indices 0 (indices 0 columns)) (sets t.counts 0 (map length cs))
+    result_of (sets t.indices 0 (indices 0 columns)) (sets t.counts 0 (map length cs))
     (rows (sets t.rows.ys 0 (map (λ o. o.y) (flatten cs))) (sets t.rows.words 0 (words pass w h cs))
     (sets t.rows.areas 0 (map (λ o. o.area) (flatten cs))))
 

@@ -8,7 +8,7 @@ ghost use Rattle.field.specs.Inner.{Says, Chain};
 ghost use Rattle.field.specs.Beside.{beside};
 ghost use Rattle.field.specs.Open.{space, open_above, opens, columns_of, cells};
 ghost use Rattle.field.specs.Links.{passes, largest, missed, largest_missed};
-ghost use Rattle.field.specs.Compact.{rows, result, Room, Few, complete, outcome, raised_top, complete_says, Compacts, Compacted};
+ghost use Rattle.field.specs.Compact.{rows, result_of, Room, Few, complete, outcome, raised_top, complete_says, Compacts, Compacted};
 ghost use Rattle.field.specs.Rowing.{laid, raised_by, Layable, Laid, Filled};
 ghost use Rattle.rerecast.specs.Answer.{said_of};
 ghost use Rattle.rerecast.specs.Compacting.{Tallies};
@@ -35,7 +35,7 @@ enum Tally {
 // A count, with a span of an area more.
 fn one_more(n: usize, area: u8) -> usize
     requires { n < none }
-    ensures* { λ r. ⌜ r ≡ cond (eqb area 0) n (n + 1) ⌝ }
+    ensures { result ≡ cond (eqb area 0) n (n + 1) }
 {
     if area == Span::NOT_WALKABLE { n } else { n + 1 }
 }
@@ -44,7 +44,7 @@ fn one_more(n: usize, area: u8) -> usize
 fn count_column(areas: &[u8], nexts: &[u32], head: u32) -> usize
     requires areas_len { length areas.now ≡ length nexts.now }
     requires by_index { (ss : List ℕ) × Chain nexts.now head ss }
-    ensures* { λ r. ⌜ ((fl ce ss : List ℕ) → Chain nexts.now head ss → r ≡ length (opens (map (span_at (contents fl ce areas.now)) ss))) ⌝ }
+    ensures { (fl ce ss : List ℕ) → Chain nexts.now head ss → result ≡ length (opens (map (span_at (contents fl ce areas.now)) ss)) }
 {
     let mut at = head;
     let mut n: usize = 0;
@@ -60,7 +60,7 @@ fn count_column(areas: &[u8], nexts: &[u32], head: u32) -> usize
 fn tally_columns(heads: &[u32], areas: &[u8], nexts: &[u32]) -> Tally
     requires heads_len_bound { length heads.now ≤ 1048576 }
     requires by_index { (free : ℕ) × (fl : List ℕ) × (ce : List ℕ) × (f : Field) × Holds heads.now (slots free fl ce areas.now nexts.now) f }
-    ensures* { λ r. ⌜ ((free : ℕ) (fl ce : List ℕ) (f : Field) → Holds heads.now (slots free fl ce areas.now nexts.now) f → Tallies r (cells (columns_of f))) ⌝ }
+    ensures { (free : ℕ) (fl ce : List ℕ) (f : Field) → Holds heads.now (slots free fl ce areas.now nexts.now) f → Tallies result (cells (columns_of f)) }
 {
     let mut i = 0;
     let mut total: usize = 0;
@@ -91,7 +91,7 @@ fn place(
 ) -> usize
     requires room { Room (k + length (open_above span top)) (rows ys.old «data».old span_areas.old) }
     requires column_in_bounds { (column < length cell_indices.now) × (column < length cell_counts.old) × (get_or cell_counts.old column 0 + length (open_above span top) ≤ 255) }
-    ensures* { λ r. ⌜ (r ≡ k + length (open_above span top)) × (rows ys.new «data».new span_areas.new ≡ laid (rows ys.old «data».old span_areas.old) k (open_above span top)) × (cell_counts.new ≡ raised_by cell_counts.old column (length (open_above span top))) ⌝ }
+    ensures { (result ≡ k + length (open_above span top)) × (rows ys.new «data».new span_areas.new ≡ laid (rows ys.old «data».old span_areas.old) k (open_above span top)) × (cell_counts.new ≡ raised_by cell_counts.old column (length (open_above span top))) }
 {
     if span.area == Span::NOT_WALKABLE {
         return k;
@@ -122,7 +122,7 @@ fn fill_column(
 ) -> usize
     requires sized { Sized (slots 0 floors.now ceilings.now areas.now nexts.now) × (column < length cell_indices.now) }
     requires by_index { (ss : List ℕ) × (Chain nexts.now head ss × Layable (contents floors.now ceilings.now areas.now) ss (rows ys.old «data».old span_areas.old) start cell_counts.old column) }
-    ensures* { λ r. ⌜ ((ss : List ℕ) → Chain nexts.now head ss → Laid (contents floors.now ceilings.now areas.now) ss (rows ys.old «data».old span_areas.old) start cell_counts.old column (rows ys.new «data».new span_areas.new) r cell_counts.new) ⌝ }
+    ensures { (ss : List ℕ) → Chain nexts.now head ss → Laid (contents floors.now ceilings.now areas.now) ss (rows ys.old «data».old span_areas.old) start cell_counts.old column (rows ys.new «data».new span_areas.new) result cell_counts.new }
 {
     let mut at = head;
     let mut k = start;
@@ -154,7 +154,7 @@ fn fill_column(
 // The index of a column that has `count` open spaces, where `before` come before them.
 fn index_of(before: usize, count: usize) -> u32
     requires { before < none }
-    ensures* { λ r. ⌜ r ≡ cond (eqb count 0) 0 before ⌝ }
+    ensures { result ≡ cond (eqb count 0) 0 before }
 {
     if count == 0 { 0 } else { before as u32 }
 }
@@ -174,7 +174,7 @@ fn fill_columns(
 )
     requires heads_len_bound { (length heads.now ≤ 1048576) × (length heads.now ≤ length cell_indices.old) × (length heads.now ≤ length cell_counts.old) }
     requires by_index { (free : ℕ) × (f : Field) × Holds heads.now (slots free floors.now ceilings.now areas.now nexts.now) f × Few (cells (columns_of f)) × Room (length (flatten (cells (columns_of f)))) (rows ys.old «data».old span_areas.old) }
-    ensures* { λ _. ⌜ ((free : ℕ) (f : Field) → Holds heads.now (slots free floors.now ceilings.now areas.now nexts.now) f → Filled (columns_of f) (result cell_indices.old cell_counts.old (rows ys.old «data».old span_areas.old)) (result cell_indices.new cell_counts.new (rows ys.new «data».new span_areas.new))) ⌝ }
+    ensures { (free : ℕ) (f : Field) → Holds heads.now (slots free floors.now ceilings.now areas.now nexts.now) f → Filled (columns_of f) (result_of cell_indices.old cell_counts.old (rows ys.old «data».old span_areas.old)) (result_of cell_indices.new cell_counts.new (rows ys.new «data».new span_areas.new)) }
 {
     let mut i = 0;
     let mut k = 0;
@@ -221,7 +221,7 @@ fn complete_columns(
 ) -> u8
     requires heads_len { (length heads.now ≡ width * depth) × (width * depth ≤ 1048576) × (length heads.now ≤ length cell_indices.old) × (length heads.now ≤ length cell_counts.old) }
     requires by_index { (free : ℕ) × (f : Field) × Holds heads.now (slots free floors.now ceilings.now areas.now nexts.now) f × Few (cells (columns_of f)) × Room (length (flatten (cells (columns_of f)))) (rows ys.old «data».old span_areas.old) }
-    ensures* { λ r. ⌜ ((free : ℕ) (f : Field) → Holds heads.now (slots free floors.now ceilings.now areas.now nexts.now) f → Room (length (flatten (cells (columns_of f)))) (rows ys.old «data».old span_areas.old) → (r ≡ largest_missed (passes tall climb) width depth (cells (columns_of f))) × (result cell_indices.new cell_counts.new (rows ys.new «data».new span_areas.new) ≡ complete (passes tall climb) width depth (columns_of f) (result cell_indices.old cell_counts.old (rows ys.old «data».old span_areas.old)))) ⌝ }
+    ensures { (free : ℕ) (f : Field) → Holds heads.now (slots free floors.now ceilings.now areas.now nexts.now) f → Room (length (flatten (cells (columns_of f)))) (rows ys.old «data».old span_areas.old) → (result ≡ largest_missed (passes tall climb) width depth (cells (columns_of f))) × (result_of cell_indices.new cell_counts.new (rows ys.new «data».new span_areas.new) ≡ complete (passes tall climb) width depth (columns_of f) (result_of cell_indices.old cell_counts.old (rows ys.old «data».old span_areas.old))) }
 {
     fill_columns(
         heads,
@@ -249,7 +249,7 @@ fn complete_columns(
 
 // Whether rows of these lengths have room for `n` open spaces.
 fn has_room(n: usize, ys: usize, data: usize, areas: usize) -> bool
-    ensures* { λ r. ⌜ Says r ((n ≤ ys) × (n ≤ «data») × (n ≤ areas)) ⌝ }
+    ensures { Says result ((n ≤ ys) × (n ≤ «data») × (n ≤ areas)) }
 {
     if ys < n {
         return false;
@@ -262,7 +262,7 @@ fn has_room(n: usize, ys: usize, data: usize, areas: usize) -> bool
 
 // The answer for a complete result.
 fn reply_of(layer: u8, top: f32) -> Reply
-    ensures* { λ r. ⌜ said_of r ≡ complete_says layer top ⌝ }
+    ensures { said_of result ≡ complete_says layer top }
 {
     if layer == 0 {
         return Reply::Compacted(top);
@@ -272,7 +272,7 @@ fn reply_of(layer: u8, top: f32) -> Reply
 
 // The greatest y of the reply's box.
 fn raised_top(grid: Grid, walkable_height: u16) -> f32
-    ensures* { λ r. ⌜ r ≡ raised_top grid walkable_height ⌝ }
+    ensures { result ≡ raised_top grid walkable_height }
 {
     let high = grid.max.y;
     high + (walkable_height as f32) * grid.cell_height
@@ -298,7 +298,7 @@ fn compact_field(
 ) -> Reply
     requires height_in_bounds { ((width * height ≤ length heads.now) × (width * height ≤ 1048576)) × (width * height ≤ length cell_indices.old) × (width * height ≤ length cell_counts.old) }
     requires by_index { (free : ℕ) × Held (take (width * height) heads.now) (slots free floors.now ceilings.now areas.now nexts.now) }
-    ensures* { λ r. ⌜ ((free : ℕ) (marks : List ℕ) → Held (take (width * height) heads.now) (slots free floors.now ceilings.now areas.now nexts.now) → Compacts width height top tall climb (store heads.now (slots free floors.now ceilings.now areas.now nexts.now) marks) (result cell_indices.old cell_counts.old (rows ys.old «data».old span_areas.old)) (outcome (said_of r) (store heads.now (slots free floors.now ceilings.now areas.now nexts.now) (replicate (length nexts.now) 0)) (result cell_indices.new cell_counts.new (rows ys.new «data».new span_areas.new)))) ⌝ }
+    ensures { (free : ℕ) (marks : List ℕ) → Held (take (width * height) heads.now) (slots free floors.now ceilings.now areas.now nexts.now) → Compacts width height top tall climb (store heads.now (slots free floors.now ceilings.now areas.now nexts.now) marks) (result_of cell_indices.old cell_counts.old (rows ys.old «data».old span_areas.old)) (outcome (said_of result) (store heads.now (slots free floors.now ceilings.now areas.now nexts.now) (replicate (length nexts.now) 0)) (result_of cell_indices.new cell_counts.new (rows ys.new «data».new span_areas.new))) }
 {
     let n = columns_of(width, height);
     let tally = tally_columns(&heads[..n], areas, nexts);
@@ -330,7 +330,7 @@ fn compact_field(
 
 // The lesser of two lengths.
 fn shorter(a: usize, b: usize) -> usize
-    ensures* { λ r. ⌜ r ≡ min a b ⌝ }
+    ensures { result ≡ min a b }
 {
     if b < a { b } else { a }
 }
@@ -353,7 +353,7 @@ pub fn into_compact(
     walkable_height: u16,
     climb: u16,
 ) -> Reply
-    ensures* { λ r. ⌜ Compacted grid walkable_height climb (store heads.now (slots free.now floors.now ceilings.now areas.now nexts.now) marks.old) (result cell_indices.old cell_counts.old (rows ys.old «data».old span_areas.old)) (outcome (said_of r) (store heads.now (slots free.now floors.now ceilings.now areas.now nexts.now) marks.new) (result cell_indices.new cell_counts.new (rows ys.new «data».new span_areas.new))) ⌝ }
+    ensures { Compacted grid walkable_height climb (store heads.now (slots free.now floors.now ceilings.now areas.now nexts.now) marks.old) (result_of cell_indices.old cell_counts.old (rows ys.old «data».old span_areas.old)) (outcome (said_of result) (store heads.now (slots free.now floors.now ceilings.now areas.now nexts.now) marks.new) (result_of cell_indices.new cell_counts.new (rows ys.new «data».new span_areas.new))) }
 {
     let shortest = shorter(cell_indices.len(), cell_counts.len());
     let admission = admit(

@@ -1,0 +1,58 @@
+-- `heightfield::build` meets its contract: a mesh that stopped is left as it is, and one placed whole is filtered.
+use borrow.Author.Rules.{rules}
+use mathlib.Core.Path.{◌≡◌, sym, ap, subst, ◌∙◌}
+use mathlib.Core.List.{[], append-nil}
+use Rattle.replies.specs.Said.{whole}
+use Rattle.field.specs.Slots.{slots}
+use Rattle.field.specs.Field.{Field, Holds}
+use Rattle.field.specs.Carrying.{Meshed, leaves}
+use Rattle.field.specs.Meshes.{Mesh, mesh, rasterized}
+use Rattle.field.specs.Populate.{filtered_by, afterwards}
+use Rattle.field.proofs.Populating.{placed-filtered, halted-kept}
+use Rattle.rerecast.specs.Rasterize.{number_of, ending_says, MeshWorked}
+use Rattle.rerecast.specs.declared.rasterize.Ending.{Ending}
+use Rattle.rerecast.specs.declared.rasterize.Ending.TheVariants.{Placed, Halted}
+use Rattle.rerecast.proofs.heightfield.build.Goals as goal
+use Rattle.rerecast.proofs.heightfield.build.Goals.{After-triangles-ending, Start}
+
+abbrev given : Start → Mesh
+given s = mesh s.args.vertices.now s.args.indices.now s.args.triangle-areas.now
+
+-- what the mesh alone comes to
+abbrev alone : Start → Field → Meshed
+alone s f = rasterized s.args.frame (given s) s.args.walkable-climb f
+
+-- the filters
+abbrev filter : Start → Field → Field
+filter s = filtered_by s.args.frame.width s.args.frame.height s.args.walkable-height s.args.walkable-climb
+
+pub triangles-ending-requires : goal.triangles-ending-requires
+triangles-ending-requires c = record { ready = c.requires.ready; by_index = ([], rw (append-nil c.args.heads.now) c.requires.held) }
+
+pub returns-in-Halted : goal.returns-in-Halted
+returns-in-Halted c f H =
+    let came : (e : Ending) → c.triangles-ending.result ≡ e → (f : Field) → Holds c.args.heads.now (slots c.args.free.now c.args.floors.now c.args.ceilings.now c.args.areas.now c.args.nexts.now) f → let l = c.triangles-ending.new in MeshWorked (alone c.before.before.before.before.before.before.before.before.before.before.before.before.before.before.before.before f) e l.heads (slots l.free l.floors l.ceilings l.areas l.nexts) = λ e q f H. let l = c.triangles-ending.new in
+    subst (λ (k : Ending). MeshWorked (alone c.before.before.before.before.before.before.before.before.before.before.before.before.before.before.before.before f) k l.heads (slots l.free l.floors l.ceilings l.areas l.nexts)) q
+    (rw (append-nil l.heads) at (c.triangles-ending.ensures [] f (rw (append-nil c.args.heads.now) H))) in
+    let l = c.triangles-ending.new in
+    let g = c.ending-1.given in
+    let R = came _ g.1 f H in
+    let k = halted-kept (filter c.before.before.before.before.before.before.before.before.before.before.before.before.before.before.before.before.before.before.before.before.before.before.before.before.before.before.before) (alone c.before.before.before.before.before.before.before.before.before.before.before.before.before.before.before.before.before.before.before.before.before.before.before.before.before.before.before f) (number_of g.0.0) (whole g.0.1.0) (whole g.0.1.1.0) R.says in
+    subst (λ (o : Meshed). MeshWorked o (Halted g.0.0 g.0.1.0 g.0.1.1.0) l.heads (slots l.free l.floors l.ceilings l.areas l.nexts)) (sym k) R
+
+pub filter_all-requires : goal.filter_all-requires
+filter_all-requires c =
+    let came : (e : Ending) → c.triangles-ending.result ≡ e → (f : Field) → Holds c.args.heads.now (slots c.args.free.now c.args.floors.now c.args.ceilings.now c.args.areas.now c.args.nexts.now) f → let l = c.triangles-ending.new in MeshWorked (alone c.before.before.before.before.before.before.before.before.before.before.before.before.before.before.before.before f) e l.heads (slots l.free l.floors l.ceilings l.areas l.nexts) = λ e q f H. let l = c.triangles-ending.new in
+    subst (λ (k : Ending). MeshWorked (alone c.before.before.before.before.before.before.before.before.before.before.before.before.before.before.before.before f) k l.heads (slots l.free l.floors l.ceilings l.areas l.nexts)) q
+    (rw (append-nil l.heads) at (c.triangles-ending.ensures [] f (rw (append-nil c.args.heads.now) H))) in
+    let R = came _ c.in_default.is c.requires.held.0 c.requires.held.1 in
+    record { height_value = (sym (c.triangles-ending.auto.heads ∙ c.requires.ready.0.all), c.requires.ready.0.sides.few); by_index = (c.triangles-ending.new.free, (leaves (alone c.before.before.before.before.before.before.before.before.before.before.before.before.before.before.before.before.before.before.before.before.before.before.before.before.before.before.before.before c.requires.held.0), R.holds)) }
+
+pub returns : goal.returns
+returns c f H =
+    let came : (e : Ending) → c.triangles-ending.result ≡ e → (f : Field) → Holds c.args.heads.now (slots c.args.free.now c.args.floors.now c.args.ceilings.now c.args.areas.now c.args.nexts.now) f → let l = c.triangles-ending.new in MeshWorked (alone c.before.before.before.before.before.before.before.before.before.before.before.before.before.before.before.before f) e l.heads (slots l.free l.floors l.ceilings l.areas l.nexts) = λ e q f H. let l = c.triangles-ending.new in
+    subst (λ (k : Ending). MeshWorked (alone c.before.before.before.before.before.before.before.before.before.before.before.before.before.before.before.before f) k l.heads (slots l.free l.floors l.ceilings l.areas l.nexts)) q
+    (rw (append-nil l.heads) at (c.triangles-ending.ensures [] f (rw (append-nil c.args.heads.now) H))) in
+    let R = came _ c.in_default.is f H in
+    let k = placed-filtered (filter c.before.before.before.before.before.before.before.before.before.before.before.before.before.before.before.before.before.before.before.before.before.before.before.before.before.before.before.before.before.before.before) (alone c.before.before.before.before.before.before.before.before.before.before.before.before.before.before.before.before.before.before.before.before.before.before.before.before.before.before.before.before.before.before.before f) R.says in
+    record { says = k.0; holds = rw k.1 (c.filter_all.ensures c.triangles-ending.new.free (leaves (alone c.before.before.before.before.before.before.before.before.before.before.before.before.before.before.before.before.before.before.before.before.before.before.before.before.before.before.before.before.before.before.before f)) R.holds) }

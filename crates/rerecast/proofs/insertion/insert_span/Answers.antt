@@ -1,0 +1,25 @@
+-- `insert_span` meets its contract: what its four steps promise, put together, is what the rule says.
+use mathlib.Core.Path.{◌∙◌}
+use borrow.Author.Rules.{rules}
+use Rattle.field.proofs.Landing.{pass-chain, merge-chain, is-refused, take-ready, link-ready, landed, is-accepted}
+use Rattle.rerecast.proofs.insertion.insert_span.Goals as goal
+
+pub pass-place-requires : goal.pass-place-requires
+pass-place-requires c = let h = c.requires.by_index in record { ceilings_len = h.1.1.sized.ceilings; by_index = pass-chain c.args.heads.now h.0 h.1.1 c.args.column c.requires.column_in_bounds c.args.new c.args.threshold }
+
+pub merge-merged-requires : goal.merge-merged-requires
+merge-merged-requires c = let h = c.requires.by_index in record { sized = h.1.1.sized; by_index = merge-chain c.args.heads.now h.0 h.1.1 c.args.column c.requires.column_in_bounds c.args.new c.args.threshold c.pass-place.ensures }
+
+pub returns-then-free-eq-NONE : goal.returns-then-free-eq-NONE
+returns-then-free-eq-NONE c others f H = is-refused c.args.heads.now others H c.args.column c.requires.column_in_bounds c.args.new c.args.threshold c.pass-place.ensures c.merge-merged.ensures c.if-free-eq-NONE.true
+
+pub take_front-s-requires : goal.take_front-s-requires
+take_front-s-requires c =
+    let both = let h = c.requires.by_index in take-ready c.args.heads.now h.0 h.1.1 c.args.column c.requires.column_in_bounds c.args.new c.args.threshold c.pass-place.ensures c.merge-merged.ensures c.requires.floor_le_ceiling c.if-free-eq-NONE.false in
+    record { sized = both.0; free_in_bounds = both.1 }
+
+pub link-requires : goal.link-requires
+link-requires c = let h = c.requires.by_index in record { column_in_bounds = c.requires.column_in_bounds; before_in_bounds = link-ready c.args.heads.now h.0 h.1.1 c.args.column c.requires.column_in_bounds c.args.new c.args.threshold c.pass-place.ensures c.merge-merged.ensures c.take_front-s.ensures.1 }
+
+pub returns : goal.returns
+returns c others f H = let l = landed c.args.heads.now others H c.args.column c.requires.column_in_bounds c.args.new c.args.threshold c.pass-place.ensures c.merge-merged.ensures c.requires.floor_le_ceiling c.if-free-eq-NONE.false in ((l.0, (c.take_front-s.ensures.0 ∙ l.1.0, l.1.1)), is-accepted c.args.heads.now others H c.args.column c.requires.column_in_bounds c.args.new c.args.threshold c.pass-place.ensures c.merge-merged.ensures c.requires.floor_le_ceiling c.if-free-eq-NONE.false c.take_front-s.ensures.0 c.take_front-s.ensures.1 c.link.ensures.0 c.link.ensures.1)

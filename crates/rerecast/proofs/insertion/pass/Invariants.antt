@@ -1,0 +1,17 @@
+-- `pass` meets its contract. The loop's invariant: what is left of the column ends as the whole would. The measure is how many slots are left.
+use Prim.Native.Nat.{◌≤◌, ◌<◌}
+use mathlib.Core.Path.{◌≡◌}
+use native.Mathlib.Omega.{arith}
+use borrow.Author.Rules.{rules}
+use lib.ListN.{length}
+use Rattle.field.specs.Slots.{none}
+use Rattle.field.specs.Inner.{slots_from}
+use Rattle.field.proofs.Chains.{chain-slot, chain-cons, chain-less}
+use Rattle.field.proofs.Passing.{Passing, passing-start, passing_step, passing-stop, passing-end}
+use Rattle.rerecast.proofs.insertion.pass.Given as goal
+
+abbrev pub invariant-loop-at : goal.invariant-loop-at
+invariant-loop-at l = Passing l.ceilings l.nexts l.head l.floor l.before l.at × (length l.ceilings ≡ length l.nexts)
+
+abbrev pub decreases-loop-at : goal.decreases-loop-at
+decreases-loop-at l = length (slots_from l.nexts l.at)

@@ -1,0 +1,62 @@
+-- `skip` meets its contract: whatever slot the loop has come to is a cursor.
+use Prim.Native.Nat.{ℕ, ◌<◌, ◌≤◌}
+use mathlib.Core.List.{List}
+use lib.ListN.{length}
+use native.Mathlib.Omega.{arith}
+use Rattle.field.specs.declared.Span.{Span}
+use Rattle.field.specs.Slots.{none, contents}
+use Rattle.field.specs.Inner.{Chain, slots_from}
+use Rattle.field.specs.FilterCode.{Cursor}
+use Rattle.field.proofs.Chains.{chain-slot, chain-cons, chain-less}
+use Rattle.field.proofs.Upward.{roof-of}
+use Rattle.field.proofs.Cursors.{cursor-next}
+use borrow.Author.Rules.{rules}
+use Rattle.rerecast.proofs.ledges.skip.Goals as goal
+use Rattle.rerecast.proofs.ledges.skip.Goals.{In-loop-at}
+
+pub loop-at-init : goal.loop-at-init
+loop-at-init c = (c.requires.by_index, λ ceilings areas whole C. C)
+
+pub offset_bounds-nexts-i : goal.offset_bounds-nexts-i
+offset_bounds-nexts-i c =
+    let slot : (c.loop-at.at < length c.args.nexts.now) × (length c.args.nexts.now ≤ none) = let k = c.loop-at.invariant.0 in (chain-slot k.0 k.1 c.loop-at-test.true, k.1.few) in
+    omega (arith, slot)
+
+pub bounds-nexts-i : goal.bounds-nexts-i
+bounds-nexts-i c =
+    let slot : (c.loop-at.at < length c.args.nexts.now) × (length c.args.nexts.now ≤ none) = let k = c.loop-at.invariant.0 in (chain-slot k.0 k.1 c.loop-at-test.true, k.1.few) in
+    omega (arith, slot)
+
+pub roof_of-requires : goal.roof_of-requires
+roof_of-requires c =
+    λ n.
+    let i = c.index-i.ensures in
+    let p = c.loop-at.invariant.0 in
+    let k = chain-cons p.0 p.1 c.loop-at-test.true in
+    rw i (omega (arith, chain-slot k.0 k.2 (rw i at n)))
+
+pub returns-then-need-wide : goal.returns-then-need-wide
+returns-then-need-wide c =
+    let i = c.index-i.ensures in
+    record { by_index_2 = λ ceilings areas whole C. c.loop-at.invariant.1 ceilings areas whole C; under = λ n. omega (arith, rw i at c.roof_of.ensures, c.wide.ensures, c.if-need-wide.true) }
+
+pub loop-at-smaller : goal.loop-at-smaller
+loop-at-smaller c =
+    let p = c.loop-at.invariant.0 in
+    let k = chain-cons p.0 p.1 c.loop-at-test.true in
+    rw c.index-i.ensures (chain-less p.0 k.0 p.1 k.1 k.2)
+
+pub loop-at-preserved : goal.loop-at-preserved
+loop-at-preserved c =
+    let i = c.index-i.ensures in
+    let p = c.loop-at.invariant.0 in
+    let k = chain-cons p.0 p.1 c.loop-at-test.true in
+    rw i (
+      (k.0, k.2),
+      λ ceilings areas whole C.
+          cursor-next (c.loop-at.invariant.1 ceilings areas whole C) c.loop-at-test.true
+          (λ tl h. rw (roof-of (contents c.args.floors.now ceilings areas) tl h) (omega (arith, rw i at c.roof_of.ensures, c.wide.ensures, c.if-need-wide.false))),
+    )
+
+pub returns : goal.returns
+returns c = record { by_index_2 = λ ceilings areas whole C. c.loop-at.invariant.1 ceilings areas whole C; under = λ n. absurd (n c.loop-at-test.false) }

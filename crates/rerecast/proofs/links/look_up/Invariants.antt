@@ -1,0 +1,18 @@
+-- The loop's invariant: the layers passed are behind. A layer that is not reached is behind too, unless it is past.
+use Prim.Native.Nat.{◌≤◌, ◌+◌, ◌-◌}
+use mathlib.Core.Path.{◌≡◌, sym, ◌∙◌}
+use mathlib.Core.Bool.{true≢false}
+use native.Mathlib.Omega.{arith}
+use lib.ListN.{get_or}
+use Rattle.field.specs.Open.{space}
+use Rattle.field.specs.Links.{passes}
+use Rattle.field.specs.Rowing.{shown_at, past, AllBehind}
+use Rattle.field.proofs.Climbing.{past-none, stays-behind, behind-next}
+use borrow.Author.Rules.{rules}
+use Rattle.rerecast.proofs.links.look_up.Given as goal
+
+abbrev pub invariant-loop-l : goal.invariant-loop-l
+invariant-loop-l l = (l.l ≤ l.n) × (l.n ≤ 255) × AllBehind l.q.tall l.q.climb l.q.y l.ys l.data l.first l.l
+
+abbrev pub decreases-loop-l : goal.decreases-loop-l
+decreases-loop-l l = l.n - l.l

@@ -1,0 +1,64 @@
+-- `lower_column` meets its contract: what is left of the column ends as the whole would.
+use Prim.Native.Nat.{◌<◌, ◌≤◌}
+use lib.ListN.{length}
+use native.Mathlib.Omega.{arith}
+use Rattle.field.specs.Slots.{none, contents}
+use Rattle.field.specs.Inner.{slots_from}
+use Rattle.field.specs.Filters.{roomed}
+use Rattle.field.proofs.Upward.{roof-of, Upward, upward-start, upward-slot, upward-next, upward-less, upward-step, upward-end}
+use borrow.Author.Rules.{rules}
+use Rattle.rerecast.proofs.pre_filter.lower_column.Goals as goal
+use Rattle.rerecast.proofs.pre_filter.lower_column.Goals.{In-loop-at}
+
+pub loop-at-init : goal.loop-at-init
+loop-at-init c = upward-start _ _ _ _ _ _ c.requires.by_index.0 c.requires.by_index.1.0 c.requires.by_index.1.1
+
+pub offset_bounds-nexts-i : goal.offset_bounds-nexts-i
+offset_bounds-nexts-i c =
+    let slot : (c.loop-at.at < length c.args.nexts.now) × (length c.args.nexts.now ≤ none) = upward-slot c.loop-at.invariant c.loop-at-test.true in
+    omega (arith, slot)
+
+pub bounds-nexts-i : goal.bounds-nexts-i
+bounds-nexts-i c =
+    let slot : (c.loop-at.at < length c.args.nexts.now) × (length c.args.nexts.now ≤ none) = upward-slot c.loop-at.invariant c.loop-at-test.true in
+    omega (arith, slot)
+
+pub roof_of-roof-requires : goal.roof_of-roof-requires
+roof_of-roof-requires c =
+    λ n.
+    let i = c.index-i.ensures in
+    rw i (omega (arith, upward-next c.loop-at.invariant c.loop-at-test.true (rw i at n)))
+
+pub offset_bounds-ceilings-i : goal.offset_bounds-ceilings-i
+offset_bounds-ceilings-i c =
+    let slot : (c.loop-at.at < length c.args.nexts.now) × (length c.args.nexts.now ≤ none) = upward-slot c.loop-at.invariant c.loop-at-test.true in
+    omega (arith, slot)
+
+pub bounds-ceilings-i : goal.bounds-ceilings-i
+bounds-ceilings-i c =
+    let slot : (c.loop-at.at < length c.args.nexts.now) × (length c.args.nexts.now ≤ none) = upward-slot c.loop-at.invariant c.loop-at-test.true in
+    omega (arith, slot)
+
+pub bounds-areas-i : goal.bounds-areas-i
+bounds-areas-i c =
+    let slot : (c.loop-at.at < length c.args.nexts.now) × (length c.args.nexts.now ≤ none) = upward-slot c.loop-at.invariant c.loop-at-test.true in
+    omega (arith, slot, c.loop-at.invariant.size)
+
+pub bounds-areas-i-in-loop-at : goal.bounds-areas-i-in-loop-at
+bounds-areas-i-in-loop-at c =
+    let slot : (c.loop-at.at < length c.args.nexts.now) × (length c.args.nexts.now ≤ none) = upward-slot c.loop-at.invariant c.loop-at-test.true in
+    omega (arith, slot, c.loop-at.invariant.size)
+
+pub loop-at-smaller : goal.loop-at-smaller
+loop-at-smaller c = rw c.index-i.ensures (upward-less c.loop-at.invariant c.loop-at-test.true)
+
+pub loop-at-preserved : goal.loop-at-preserved
+loop-at-preserved c =
+    let i = c.index-i.ensures in
+    let s = c.args in
+    rw i
+    (upward-step c.loop-at.invariant c.loop-at-test.true
+    (λ tl k. rw (roof-of (contents s.floors.now s.ceilings.now c.loop-at.areas) tl k) (rw (c.roof_of-roof.ensures, i) at c.lower.ensures)))
+
+pub returns : goal.returns
+returns c = upward-end c.loop-at.invariant c.loop-at-test.false

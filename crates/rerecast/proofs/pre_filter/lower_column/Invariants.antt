@@ -1,0 +1,16 @@
+-- `lower_column` meets its contract: what is left of the column ends as the whole would.
+use Prim.Native.Nat.{◌<◌, ◌≤◌}
+use lib.ListN.{length}
+use native.Mathlib.Omega.{arith}
+use Rattle.field.specs.Slots.{none, contents}
+use Rattle.field.specs.Inner.{slots_from}
+use Rattle.field.specs.Filters.{roomed}
+use Rattle.field.proofs.Upward.{roof-of, Upward, upward-start, upward-slot, upward-next, upward-less, upward-step, upward-end}
+use borrow.Author.Rules.{rules}
+use Rattle.rerecast.proofs.pre_filter.lower_column.Given as goal
+
+abbrev pub invariant-loop-at : goal.invariant-loop-at
+invariant-loop-at l = Upward (λ below s above. roomed l.height s above) l.floors l.ceilings l.nexts l.head l.initial.areas l.areas l.at
+
+abbrev pub decreases-loop-at : goal.decreases-loop-at
+decreases-loop-at l = length (slots_from l.nexts l.at)

@@ -1,0 +1,6 @@
+-- `within` meets its contract.
+use borrow.Author.Rules.{rules}
+use Rattle.rerecast.proofs.pre_filter.within.Goals as goal
+
+pub returns : goal.returns
+returns c = simp (← c.wide.ensures, ← c.wide-2.ensures, ← c.wide-3.ensures)

@@ -1,0 +1,6 @@
+-- `rasterize::corner` meets its contract.
+use borrow.Author.Rules.{rules}
+use Rattle.rerecast.proofs.rasterize.corner.Goals as goal
+
+pub returns : goal.returns
+returns c = rw c.index-i.ensures

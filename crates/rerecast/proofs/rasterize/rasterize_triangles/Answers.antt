@@ -1,0 +1,40 @@
+-- `rasterize_triangles` meets its contract: the tests of a mesh, and past them its triangles.
+use borrow.Author.Rules.{rules}
+use mathlib.Core.Path.{refl}
+use Rattle.clip.specs.Work.{frame_of}
+use Rattle.grid.specs.Grid.{width, height}
+use Rattle.field.specs.Slots.{slots}
+use Rattle.field.specs.Store.{Store, store}
+use Rattle.field.specs.Meshes.{Mesh, mesh, rasterized}
+use Rattle.rerecast.specs.Answer.{said_of}
+use Rattle.rerecast.proofs.MeshAdmitted.{mesh-passes, mesh-ends, mesh-relies, mesh-made}
+use Rattle.rerecast.proofs.rasterize.rasterize_triangles.Goals as goal
+use Rattle.rerecast.proofs.rasterize.rasterize_triangles.Goals.{Start}
+
+pub take_mesh-requires : goal.take_mesh-requires
+take_mesh-requires c =
+    let both = let lent : Store = let a = c.args in store a.heads.now (slots a.free.now a.floors.now a.ceilings.now a.areas.now a.nexts.now) a.marks.now in
+    let given : Mesh = mesh c.args.vertices.now c.args.indices.now c.args.triangle_areas.now in
+    let r = c.admit_mesh-admission in
+    let marks = r.new.marks in
+    let k = c.admission-in-Granted-1.given in
+    mesh-relies k.0.0 k.0.1.0 c.args.grid (given) (lent) marks (mesh-passes r.result c.args.grid (given) (lent) marks r.ensures k.1) in
+    record { sides = both.0; held = both.1 }
+
+pub returns-in-Refused : goal.returns-in-Refused
+returns-in-Refused c =
+    let lent : Store = let a = c.args in store a.heads.now (slots a.free.now a.floors.now a.ceilings.now a.areas.now a.nexts.now) a.marks.now in
+    let given : Mesh = mesh c.args.vertices.now c.args.indices.now c.args.triangle_areas.now in
+    let r = c.admit_mesh-admission in
+    mesh-ends r.result c.args.grid (given) (lent) r.new.marks r.ensures c.in-Refused.is (rasterized (frame_of c.args.grid (width c.args.grid) (height c.args.grid)) (given) c.args.threshold)
+
+pub returns-in-Granted : goal.returns-in-Granted
+returns-in-Granted c =
+    let lent : Store = let a = c.args in store a.heads.now (slots a.free.now a.floors.now a.ceilings.now a.areas.now a.nexts.now) a.marks.now in
+    let given : Mesh = mesh c.args.vertices.now c.args.indices.now c.args.triangle_areas.now in
+    let r = c.admit_mesh-admission in
+    let marks = r.new.marks in
+    let k = c.admission-in-Granted-1.given in
+    let l = c.take_mesh.new in
+    mesh-made k.0.0 k.0.1.0 c.args.grid (given) (lent) marks (mesh-passes r.result c.args.grid (given) (lent) marks r.ensures k.1)
+    (λ w h. rasterized (frame_of c.args.grid w h) (given) c.args.threshold) (said_of c.take_mesh.result) l.heads (slots l.free l.floors l.ceilings l.areas l.nexts) c.take_mesh.ensures

@@ -1,0 +1,35 @@
+-- `rasterize::triangle_at` meets its contract.
+use borrow.Author.Rules.{rules}
+use mathlib.Core.Path.{◌≡◌, refl, sym, ap, ◌∙◌}
+use mathlib.Core.List.{List, [], ◌∷◌}
+use Prim.Native.Nat.{ℕ, ◌+◌, ◌*◌, ◌<◌, ◌≤◌}
+use native.Mathlib.Omega.{arith}
+use lib.ListN.{length}
+use Rattle.grid.specs.declared.Corner.{Corner}
+use Rattle.clip.specs.Work.{triangle_events}
+use Rattle.field.specs.Meshes.{Mesh, mesh, corners_of}
+use Rattle.field.proofs.Carrying.{remains-of}
+use Rattle.rerecast.proofs.rasterize.triangle_at.Goals as goal
+use Rattle.rerecast.proofs.rasterize.triangle_at.Goals.{Start}
+
+pub corner-a-requires : goal.corner-a-requires
+corner-a-requires c =
+    let inside : c.args.t * 3 < length c.args.indices.now = omega (arith, c.requires.ready.3, c.requires.ready.1.triangles) in
+    (inside, c.requires.ready.2 (c.args.t * 3) inside)
+
+pub corner-b-requires : goal.corner-b-requires
+corner-b-requires c =
+    let inside : c.args.t * 3 + 1 < length c.args.indices.now = omega (arith, c.requires.ready.3, c.requires.ready.1.triangles) in
+    (inside, c.requires.ready.2 (c.args.t * 3 + 1) inside)
+
+pub corner-c-requires : goal.corner-c-requires
+corner-c-requires c =
+    let inside : c.args.t * 3 + 2 < length c.args.indices.now = omega (arith, c.requires.ready.3, c.requires.ready.1.triangles) in
+    (inside, c.requires.ready.2 (c.args.t * 3 + 2) inside)
+
+pub returns : goal.returns
+returns c others f H =
+    let meshed : Mesh = mesh c.args.vertices.now c.args.indices.now c.args.triangle_areas.now in
+    let events : triangle_events c.args.frame (corners_of (meshed) c.args.t) ≡ triangle_events c.args.frame (c.corner-a.result ∷ c.corner-b.result ∷ c.corner-c.result ∷ []) =
+    rw (c.corner-a.ensures, c.corner-b.ensures, c.corner-c.ensures) in
+    remains-of c.args.frame.width c.args.threshold _ 0 f events (c.triangle.ensures others f H)

@@ -1,0 +1,24 @@
+-- `clear_bytes` meets its contract. The loop's invariant: the first bytes are set, and the others as they were.
+use Prim.Native.Nat.{◌-◌}
+use native.Mathlib.Omega.{arith}
+use lib.ListN.{length}
+use Rattle.field.proofs.Emptying.{Filling, filling-start, filling-turn, filling-end}
+use Rattle.rerecast.proofs.slices.clear_bytes.Goals as goal
+
+pub loop-i-init : goal.loop-i-init
+loop-i-init c = filling-start 0 c.args.s.now
+
+pub bounds-s-i : goal.bounds-s-i
+bounds-s-i c = omega arith
+
+pub overflow_add-i : goal.overflow_add-i
+overflow_add-i c = omega arith
+
+pub loop-i-smaller : goal.loop-i-smaller
+loop-i-smaller c = omega arith
+
+pub loop-i-preserved : goal.loop-i-preserved
+loop-i-preserved c = filling-turn c.loop-i.invariant c.loop-i-test.true
+
+pub returns : goal.returns
+returns c = filling-end c.loop-i.invariant c.loop-i-test.false

@@ -1,0 +1,13 @@
+-- `clear_heads` meets its contract. The loop's invariant: the first heads are set, and the others as they were.
+use Prim.Native.Nat.{◌-◌}
+use native.Mathlib.Omega.{arith}
+use lib.ListN.{length}
+use Rattle.field.specs.Slots.{none}
+use Rattle.field.proofs.Emptying.{Filling, filling-start, filling-turn, filling-end}
+use Rattle.rerecast.proofs.slices.clear_heads.Given as goal
+
+abbrev pub invariant-loop-i : goal.invariant-loop-i
+invariant-loop-i l = Filling none l.initial.s l.s l.i
+
+abbrev pub decreases-loop-i : goal.decreases-loop-i
+decreases-loop-i l = length l.initial.s - l.i
