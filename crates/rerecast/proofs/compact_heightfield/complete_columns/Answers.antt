@@ -21,13 +21,6 @@ use Rattle.rerecast.proofs.compact_heightfield.complete_columns.Goals.{After-fil
 wide : (c : Start) (free : ℕ) (f : Field) → Holds c.args.heads.now (slots free c.args.floors.now c.args.ceilings.now c.args.areas.now c.args.nexts.now) f → length (cells (columns_of f)) ≡ c.args.width * c.args.depth
 wide c free f H = cells_wide H ∙ c.requires.heads_len.0
 
--- the cells are there once they are stored
-there : (c : After-fill_columns) (free : ℕ) (f : Field) → let s = c.args in Holds s.heads.now (slots free s.floors.now s.ceilings.now s.areas.now s.nexts.now) f → Room (length (flatten (cells (columns_of f)))) (rows s.ys.now s.«data».now s.span-areas.now) → Shown (cells (columns_of f)) c.fill_columns.new.cell_indices c.fill_columns.new.cell_counts c.fill_columns.new.ys c.fill_columns.new.data
-there c free f H r =
-    let p = c.requires.heads_len in
-    let e = wide c.before.before.before.before.before.before.before.before.before.before.before.before.before.before.before.before.before free f H in
-    shown_of (c.fill_columns.ensures free f H) r (omega (arith, e, p.0, p.2)) (omega (arith, e, p.0, p.3)) (omega (arith, e, p.1)) (λ i l. column-ascends H i (omega (arith, columns-wide H)))
-
 pub fill_columns-requires : goal.fill_columns-requires
 fill_columns-requires c =
     let p = c.requires in
@@ -35,12 +28,20 @@ fill_columns-requires c =
 
 pub link_columns-requires : goal.link_columns-requires
 link_columns-requires c =
+    let wide : (free : ℕ) (f : Field) → Holds c.args.heads.now (slots free c.args.floors.now c.args.ceilings.now c.args.areas.now c.args.nexts.now) f → length (cells (columns_of f)) ≡ c.args.width * c.args.depth = λ free f H. cells_wide H ∙ c.requires.heads_len.0 in
+    let there : (free : ℕ) (f : Field) → let s = c.args in Holds s.heads.now (slots free s.floors.now s.ceilings.now s.areas.now s.nexts.now) f → Room (length (flatten (cells (columns_of f)))) (rows s.ys.now s.«data».now s.span_areas.now) → Shown (cells (columns_of f)) c.fill_columns.new.cell_indices c.fill_columns.new.cell_counts c.fill_columns.new.ys c.fill_columns.new.data = λ free f H r. let p = c.requires.heads_len in
+    let e = wide free f H in
+    shown_of (c.fill_columns.ensures free f H) r (omega (arith, e, p.0, p.2)) (omega (arith, e, p.0, p.3)) (omega (arith, e, p.1)) (λ i l. column-ascends H i (omega (arith, columns-wide H))) in
     let g = c.requires.by_index in
-    record { depth_bound = c.requires.heads_len.1; cs_len = (cells (columns_of g.1), wide c.before.before.before.before.before.before.before.before.before.before.before.before.before.before.before.before.before.before.before.before.before.before.before.before.before.before.before.before g.0 g.1 g.2, there g.0 g.1 g.2 g.4) }
+    record { depth_bound = c.requires.heads_len.1; cs_len = (cells (columns_of g.1), wide g.0 g.1 g.2, there g.0 g.1 g.2 g.4) }
 
 pub returns : goal.returns
 returns c =
+    let wide : (free : ℕ) (f : Field) → Holds c.args.heads.now (slots free c.args.floors.now c.args.ceilings.now c.args.areas.now c.args.nexts.now) f → length (cells (columns_of f)) ≡ c.args.width * c.args.depth = λ free f H. cells_wide H ∙ c.requires.heads_len.0 in
+    let there : (free : ℕ) (f : Field) → let s = c.args in Holds s.heads.now (slots free s.floors.now s.ceilings.now s.areas.now s.nexts.now) f → Room (length (flatten (cells (columns_of f)))) (rows s.ys.now s.«data».now s.span_areas.now) → Shown (cells (columns_of f)) c.fill_columns.new.cell_indices c.fill_columns.new.cell_counts c.fill_columns.new.ys c.fill_columns.new.data = λ free f H r. let p = c.requires.heads_len in
+    let e = wide free f H in
+    shown_of (c.fill_columns.ensures free f H) r (omega (arith, e, p.0, p.2)) (omega (arith, e, p.0, p.3)) (omega (arith, e, p.1)) (λ i l. column-ascends H i (omega (arith, columns-wide H))) in
     λ free f H r.
     let s = c.args in
-    let k = c.link_columns.ensures (cells (columns_of f)) (wide c.before.before.before.before.before.before.before.before.before.before.before.before.before.before.before.before.before.before.before.before.before.before.before.before.before.before.before.before.before.before.before free f H) (there free f H r) in
+    let k = c.link_columns.ensures (cells (columns_of f)) (wide free f H) (there free f H r) in
     (k.1, completed (passes s.tall s.climb) s.width s.depth (columns_of f) (c.fill_columns.ensures free f H) k.0)

@@ -15,13 +15,6 @@ use borrow.Author.Rules.{rules}
 use Rattle.rerecast.proofs.compact_heightfield.fill_column.Goals as goal
 use Rattle.rerecast.proofs.compact_heightfield.fill_column.Goals.{After-roof_of-top, In-loop-at}
 
--- what is above the span is what the rule says
-
-up : (c : After-roof_of-top) → let s = c.args in (tl : List ℕ) → Chain s.nexts.now (get_or s.nexts.now c.loop-at.at 0) tl → c.roof_of-top.result ≡ roof (map (span_at (contents s.floors.now s.ceilings.now s.areas.now)) tl)
-up c tl k =
-    let s = c.args in
-    (rw c.index-i.ensures at c.roof_of-top.ensures) ∙ sym (roof-of (contents s.floors.now s.ceilings.now s.areas.now) tl k)
-
 pub loop-at-init : goal.loop-at-init
 loop-at-init c =
     let p = c.requires in
@@ -73,12 +66,15 @@ bounds-areas-i c =
 
 pub place-k-requires : goal.place-k-requires
 place-k-requires c =
-    let both = let p = c.loop-at.invariant in
+    let up : let s = c.args in (tl : List ℕ) → Chain s.nexts.now (get_or s.nexts.now c.loop-at.at 0) tl → c.roof_of-top.result ≡ roof (map (span_at (contents s.floors.now s.ceilings.now s.areas.now)) tl) = λ tl k. let s = c.args in
+    (rw c.index-i.ensures at c.roof_of-top.ensures) ∙ sym (roof-of (contents s.floors.now s.ceilings.now s.areas.now) tl k) in
+    let p = c.loop-at.invariant in
     let n = c.loop-at-test.true in
     let top = c.roof_of-top.result in
-    rw c.index-i.ensures
-    (laying-room p n top (up), (c.requires.sized.1, p.cell, laying-under p n top (up))) in
-    record { room = both.0; column_in_bounds = both.1 }
+    record {
+      room = rw c.index-i.ensures (laying-room p n top up);
+      column_in_bounds = rw c.index-i.ensures (c.requires.sized.1, p.cell, laying-under p n top up);
+    }
 
 pub loop-at-smaller : goal.loop-at-smaller
 loop-at-smaller c =
@@ -88,6 +84,8 @@ loop-at-smaller c =
 
 pub loop-at-preserved : goal.loop-at-preserved
 loop-at-preserved c =
+    let up : let s = c.args in (tl : List ℕ) → Chain s.nexts.now (get_or s.nexts.now c.loop-at.at 0) tl → c.roof_of-top.result ≡ roof (map (span_at (contents s.floors.now s.ceilings.now s.areas.now)) tl) = λ tl k. let s = c.args in
+    (rw c.index-i.ensures at c.roof_of-top.ensures) ∙ sym (roof-of (contents s.floors.now s.ceilings.now s.areas.now) tl k) in
     let i = c.index-i.ensures in
     let e = c.place-k.ensures in
     rw i

@@ -13,7 +13,7 @@ use Rattle.rerecast.proofs.compact_heightfield.fill_columns.Goals as goal
 use Rattle.rerecast.proofs.compact_heightfield.fill_columns.Goals.{In-loop-i}
 
 -- each column has an index and a count
-inside : (c : In-loop-i) → (c.loop-i.i < length c.loop-i.cell-indices) × (c.loop-i.i < length c.loop-i.cell-counts)
+inside : (c : In-loop-i) → (c.loop-i.i < length c.loop-i.cell_indices) × (c.loop-i.i < length c.loop-i.cell_counts)
 inside c =
     let p = c.loop-i.invariant.0 in
     let s = c.requires.heads_len_bound in
@@ -33,7 +33,7 @@ bounds-heads-i c = c.loop-i-test.true
 
 pub fill_column-end-requires : goal.fill_column-end-requires
 fill_column-end-requires c =
-    let inside : (c.loop-i.i < length c.loop-i.cell-indices) × (c.loop-i.i < length c.loop-i.cell-counts) = let p = c.loop-i.invariant.0 in
+    let inside : (c.loop-i.i < length c.loop-i.cell_indices) × (c.loop-i.i < length c.loop-i.cell_counts) = let p = c.loop-i.invariant.0 in
     let s = c.requires.heads_len_bound in
     (omega (arith, p.indices, s.1, c.loop-i-test.true), omega (arith, p.counts, s.2, c.loop-i-test.true)) in
     let g = c.requires.by_index in
@@ -45,11 +45,11 @@ fill_column-end-requires c =
 
 pub overflow_sub-end : goal.overflow_sub-end
 overflow_sub-end c =
-    let inside : (c.loop-i.i < length c.loop-i.cell-indices) × (c.loop-i.i < length c.loop-i.cell-counts) = let p = c.loop-i.invariant.0 in
+    let inside : (c.loop-i.i < length c.loop-i.cell_indices) × (c.loop-i.i < length c.loop-i.cell_counts) = let p = c.loop-i.invariant.0 in
     let s = c.requires.heads_len_bound in
     (omega (arith, p.indices, s.1, c.loop-i-test.true), omega (arith, p.counts, s.2, c.loop-i-test.true)) in
     let g = c.requires.by_index in
-    omega (arith, stored-place g.2 c.loop-i-test.true c.loop-i.cell-counts (inside).1 c.fill_column-end.ensures)
+    omega (arith, stored-place g.2 c.loop-i-test.true c.loop-i.cell_counts (inside).1 c.fill_column-end.ensures)
 
 pub index_of-requires : goal.index_of-requires
 index_of-requires c = omega (arith, c.loop-i.invariant.0.below, c.loop-i-test.true, c.requires.heads_len_bound)
@@ -59,7 +59,7 @@ offset_bounds-cell_indices-i c = omega (arith, c.requires.heads_len_bound, c.loo
 
 pub bounds-cell_indices-i : goal.bounds-cell_indices-i
 bounds-cell_indices-i c =
-    let inside : (c.loop-i.i < length c.loop-i.cell-indices) × (c.loop-i.i < length c.loop-i.cell-counts) = let p = c.loop-i.invariant.0 in
+    let inside : (c.loop-i.i < length c.loop-i.cell_indices) × (c.loop-i.i < length c.loop-i.cell_counts) = let p = c.loop-i.invariant.0 in
     let s = c.requires.heads_len_bound in
     (omega (arith, p.indices, s.1, c.loop-i-test.true), omega (arith, p.counts, s.2, c.loop-i-test.true)) in
     (inside).0
@@ -72,12 +72,12 @@ loop-i-smaller c = omega (arith, c.loop-i-test.true)
 
 pub loop-i-preserved : goal.loop-i-preserved
 loop-i-preserved c =
-    let inside : (c.loop-i.i < length c.loop-i.cell-indices) × (c.loop-i.i < length c.loop-i.cell-counts) = let p = c.loop-i.invariant.0 in
+    let inside : (c.loop-i.i < length c.loop-i.cell_indices) × (c.loop-i.i < length c.loop-i.cell_counts) = let p = c.loop-i.invariant.0 in
     let s = c.requires.heads_len_bound in
     (omega (arith, p.indices, s.1, c.loop-i-test.true), omega (arith, p.counts, s.2, c.loop-i-test.true)) in
     let p = c.loop-i.invariant in
     let l = c.loop-i-test.true in
-    let sz = c.loop-i.cell-counts in
+    let sz = c.loop-i.cell_counts in
     let n = (inside).1 in
     let e = c.fill_column-end.ensures in
     let v = c.index_of.result in

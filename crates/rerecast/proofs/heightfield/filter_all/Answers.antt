@@ -12,22 +12,24 @@ raise_columns-requires c = (c.requires.by_index.0, c.args.floors.now, c.requires
 
 pub clear_columns-requires : goal.clear_columns-requires
 clear_columns-requires c =
-    let both = let raised : Held c.args.heads.now (slots c.requires.by_index.0 c.args.floors.now c.args.ceilings.now c.raise_columns.new.areas c.args.nexts.now) = let H = c.requires.by_index.1 in
-    (low_obstacles c.args.walkable-climb H.0, c.raise_columns.ensures c.requires.by_index.0 c.args.floors.now H.0 H.1) in
-    rw (c.index.ensures, c.index-2.ensures) ((c.requires.height_value.0, c.requires.height_value.1), (c.requires.by_index.0, raised)) in
-    record { depth_value = both.0; by_index = both.1 }
+    let raised : Held c.args.heads.now (slots c.requires.by_index.0 c.args.floors.now c.args.ceilings.now c.raise_columns.new.areas c.args.nexts.now) = let H = c.requires.by_index.1 in
+    (low_obstacles c.args.walkable_climb H.0, c.raise_columns.ensures c.requires.by_index.0 c.args.floors.now H.0 H.1) in
+    record {
+      depth_value = rw (c.index.ensures, c.index-2.ensures) (c.requires.height_value.0, c.requires.height_value.1);
+      by_index = (c.requires.by_index.0, raised);
+    }
 
 pub lower_columns-requires : goal.lower_columns-requires
 lower_columns-requires c =
-    let cleared : Held c.args.heads.now (slots c.requires.by_index.0 c.args.floors.now c.args.ceilings.now c.clear_columns.new.areas c.args.nexts.now) = let raised : Held c.args.heads.now (slots c.requires.by_index.0 c.args.floors.now c.args.ceilings.now c.raise_columns.new.areas c.args.nexts.now) = let H = c.requires.by_index.1 in
-    (low_obstacles c.args.walkable-climb H.0, c.raise_columns.ensures c.requires.by_index.0 c.args.floors.now H.0 H.1) in
-    let H = raised in
-    (ledges c.index.result c.index-2.result c.args.walkable-height c.args.walkable-climb H.0, c.clear_columns.ensures c.requires.by_index.0 H.0 H.1) in
+    let raised : Held c.args.heads.now (slots c.requires.by_index.0 c.args.floors.now c.args.ceilings.now c.raise_columns.new.areas c.args.nexts.now) = let H = c.requires.by_index.1 in
+    (low_obstacles c.args.walkable_climb H.0, c.raise_columns.ensures c.requires.by_index.0 c.args.floors.now H.0 H.1) in
+    let cleared : Held c.args.heads.now (slots c.requires.by_index.0 c.args.floors.now c.args.ceilings.now c.clear_columns.new.areas c.args.nexts.now) = let H = raised in
+    (ledges c.index.result c.index-2.result c.args.walkable_height c.args.walkable_climb H.0, c.clear_columns.ensures c.requires.by_index.0 H.0 H.1) in
     (c.requires.by_index.0, cleared)
 
 pub returns : goal.returns
 returns c free f H =
     let one = c.raise_columns.ensures free c.args.floors.now f H in
-    let two = c.clear_columns.ensures free (low_obstacles c.args.walkable-climb f) one in
-    let three = c.lower_columns.ensures free (ledges c.index.result c.index-2.result c.args.walkable-height c.args.walkable-climb (low_obstacles c.args.walkable-climb f)) two in
+    let two = c.clear_columns.ensures free (low_obstacles c.args.walkable_climb f) one in
+    let three = c.lower_columns.ensures free (ledges c.index.result c.index-2.result c.args.walkable_height c.args.walkable_climb (low_obstacles c.args.walkable_climb f)) two in
     rw (c.index.ensures, c.index-2.ensures) at three

@@ -19,7 +19,7 @@ abbrev lent : Start → Slots
 lent s = let a = s.args in slots a.free.now a.floors.now a.ceilings.now a.areas.now a.nexts.now
 
 abbrev given : Start → Mesh
-given s = mesh s.args.vertices.now s.args.indices.now s.args.triangle-areas.now
+given s = mesh s.args.vertices.now s.args.indices.now s.args.triangle_areas.now
 
 pub columns_of-n-requires : goal.columns_of-n-requires
 columns_of-n-requires c = c.requires.sides.0.few
@@ -37,7 +37,7 @@ returns c marks =
     let a = c.args in
     let n = c.columns_of-n in
     let l = c.build-ending.new in
-    mesh-built a.width a.height a.heads.now (lent c.before.before.before.before.before.before.before.before.before.before.before.before.before.before.before.before.before.before.before.before.before.before.before.before.before.before.before.before.before) c.requires.sides.1 c.requires.held n.ensures (populated (frame_of a.grid a.width a.height) (given c.before.before.before.before.before.before.before.before.before.before.before.before.before.before.before.before.before.before.before.before.before.before.before.before.before.before.before.before.before) a.walkable-height a.walkable-climb) marks
+    mesh-built a.width a.height a.heads.now (lent c.before.before.before.before.before.before.before.before.before.before.before.before.before.before.before.before.before.before.before.before.before.before.before.before.before.before.before.before.before) c.requires.sides.1 c.requires.held n.ensures (populated (frame_of a.grid a.width a.height) (given c.before.before.before.before.before.before.before.before.before.before.before.before.before.before.before.before.before.before.before.before.before.before.before.before.before.before.before.before.before) a.walkable_height a.walkable_climb) marks
     (said_of c.reply_of.result) l.heads (slots l.free l.floors l.ceilings l.areas l.nexts) c.build-ending.auto.heads
     (λ k H.
     let R = c.build-ending.ensures k H in

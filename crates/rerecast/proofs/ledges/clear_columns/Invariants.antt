@@ -20,7 +20,7 @@ invariant-loop-i l = (l.i ≤ length l.heads)
     × (length l.areas ≡ length l.initial.areas)
     × (l.c.x + l.c.z * l.width ≡ l.i)
     × (0 < l.width → l.c.x < l.width)
-    × ((free : ℕ) (f : Field) → Holds l.heads (slots free l.floors l.ceilings l.initial.areas l.nexts) f → Sweep (λ l.i below s above. firm l.height l.climb (spans f) (beside l.width l.depth l.i) s above) f l.areas l.i)
+    × ((free : ℕ) (f : Field) → Holds l.heads (slots free l.floors l.ceilings l.initial.areas l.nexts) f → Sweep (λ j below s above. firm l.height l.climb (spans f) (beside l.width l.depth j) s above) f l.areas l.i)
 
 abbrev pub decreases-loop-i : goal.decreases-loop-i
 decreases-loop-i l = length l.heads - l.i

@@ -43,9 +43,11 @@ returns-then-need-wide c =
 
 pub follow-further-requires : goal.follow-further-requires
 follow-further-requires c =
-    let both = let p = c.requires in
-    rw (c.wide.ensures, c.wide-2.ensures) (p.floors_len.0, (_, p.by_index.0, p.by_index.1, p.by_index.2, p.by_index.3, p.by_index.4)) in
-    record { floors_len = both.0; by_index = both.1 }
+    let p = c.requires in
+    record {
+      floors_len = p.floors_len.0;
+      by_index = rw (c.wide.ensures, c.wide-2.ensures) (_, p.by_index.0, p.by_index.1, p.by_index.2, p.by_index.3, p.by_index.4);
+    }
 
 pub looks_steep-requires : goal.looks_steep-requires
 looks_steep-requires c =

@@ -13,11 +13,6 @@ use borrow.Author.Rules.{rules}
 use Rattle.rerecast.proofs.links.largest_layer.Goals as goal
 use Rattle.rerecast.proofs.links.largest_layer.Goals.{After-can_pass}
 
--- what the loop tests
-
-test : (c : After-can_pass) → let s = c.args in c.can_pass.result ≡ passes s.q.tall s.q.climb (space s.q.y s.q.height 0) (shown_at s.ys.now s.«data».now (s.first + c.loop-l.l))
-test c = rw c.height_in.ensures at c.can_pass.ensures
-
 pub loop-l-init : goal.loop-l-init
 loop-l-init c =
     let s = c.args in
@@ -67,6 +62,7 @@ loop-l-smaller c = omega (arith, c.loop-l-test.true)
 
 pub loop-l-preserved : goal.loop-l-preserved
 loop-l-preserved c =
+    let test : let s = c.args in c.can_pass.result ≡ passes s.q.tall s.q.climb (space s.q.y s.q.height 0) (shown_at s.ys.now s.«data».now (s.first + c.loop-l.l)) = rw c.height_in.ensures at c.can_pass.ensures in
     let s = c.args in
     let v = c.loop-l in (
       omega (arith, c.loop-l-test.true),

@@ -21,18 +21,15 @@ use Rattle.rerecast.proofs.links.link_spans.Goals as goal
 use Rattle.rerecast.proofs.links.link_spans.Goals.{At-loop-l, In-loop-l}
 
 -- the cells as they are at the loop's test
-
-shown-now : (c : At-loop-l) → let s = c.args in (cs : List (List Open)) → length cs ≡ s.width * s.depth → Shown cs s.cell-indices.now s.cell-counts.now s.ys.now s.«data».now → Shown cs s.cell-indices.now s.cell-counts.now s.ys.now c.loop-l.«data»
+shown-now : (c : At-loop-l) → let s = c.args in (cs : List (List Open)) → length cs ≡ s.width * s.depth → Shown cs s.cell_indices.now s.cell_counts.now s.ys.now s.«data».now → Shown cs s.cell_indices.now s.cell_counts.now s.ys.now c.loop-l.«data»
 shown-now c cs e S = shown-kept S (c.loop-l.invariant.3 cs e S).heights c.loop-l.invariant.2
-
--- the column's own cell
-
-cell-now : (c : At-loop-l) → let s = c.args in (cs : List (List Open)) → length cs ≡ s.width * s.depth → Shown cs s.cell-indices.now s.cell-counts.now s.ys.now s.«data».now → Cell cs s.cell-indices.now s.cell-counts.now s.ys.now c.loop-l.«data» s.column
-cell-now c cs e S = (shown-now c cs e S).cell c.args.column (omega (arith, c.requires.column_bound))
 
 -- the place of a turn is one of the rows
 spot : (c : In-loop-l) → (c.index-first.result + c.loop-l.l < length c.args.ys.now) × (c.index-first.result + c.loop-l.l < length c.loop-l.«data»)
 spot c =
+    
+    let shown-now : let s = c.args in (cs : List (List Open)) → length cs ≡ s.width * s.depth → Shown cs s.cell_indices.now s.cell_counts.now s.ys.now s.«data».now → Shown cs s.cell_indices.now s.cell_counts.now s.ys.now c.loop-l.«data» = λ cs e S. shown-kept S (c.loop-l.invariant.3 cs e S).heights c.loop-l.invariant.2 in
+    let cell-now : let s = c.args in (cs : List (List Open)) → length cs ≡ s.width * s.depth → Shown cs s.cell_indices.now s.cell_counts.now s.ys.now s.«data».now → Cell cs s.cell_indices.now s.cell_counts.now s.ys.now c.loop-l.«data» s.column = λ cs e S. (shown-now cs e S).cell c.args.column (omega (arith, c.requires.column_bound)) in
     let g = c.requires.cs_len in
     let k = cell-now g.0 g.1 g.2 in
     (omega (arith, k.in_ys, c.index-first.ensures, c.loop-l-test.true), omega (arith, k.in_words, c.index-first.ensures, c.loop-l-test.true))
@@ -65,6 +62,8 @@ offset_bounds-ys-k c = omega (arith, spot c)
 
 pub bounds-ys-k : goal.bounds-ys-k
 bounds-ys-k c =
+    let shown-now : let s = c.args in (cs : List (List Open)) → length cs ≡ s.width * s.depth → Shown cs s.cell_indices.now s.cell_counts.now s.ys.now s.«data».now → Shown cs s.cell_indices.now s.cell_counts.now s.ys.now c.loop-l.«data» = λ cs e S. shown-kept S (c.loop-l.invariant.3 cs e S).heights c.loop-l.invariant.2 in
+    let cell-now : let s = c.args in (cs : List (List Open)) → length cs ≡ s.width * s.depth → Shown cs s.cell_indices.now s.cell_counts.now s.ys.now s.«data».now → Cell cs s.cell_indices.now s.cell_counts.now s.ys.now c.loop-l.«data» s.column = λ cs e S. (shown-now cs e S).cell c.args.column (omega (arith, c.requires.column_bound)) in
     let spot : (c.index-first.result + c.loop-l.l < length c.args.ys.now) × (c.index-first.result + c.loop-l.l < length c.loop-l.«data») = let g = c.requires.cs_len in
     let k = cell-now g.0 g.1 g.2 in
     (omega (arith, k.in_ys, c.index-first.ensures, c.loop-l-test.true), omega (arith, k.in_words, c.index-first.ensures, c.loop-l-test.true)) in
@@ -72,6 +71,8 @@ bounds-ys-k c =
 
 pub offset_bounds-data-k : goal.offset_bounds-data-k
 offset_bounds-data-k c =
+    let shown-now : let s = c.args in (cs : List (List Open)) → length cs ≡ s.width * s.depth → Shown cs s.cell_indices.now s.cell_counts.now s.ys.now s.«data».now → Shown cs s.cell_indices.now s.cell_counts.now s.ys.now c.loop-l.«data» = λ cs e S. shown-kept S (c.loop-l.invariant.3 cs e S).heights c.loop-l.invariant.2 in
+    let cell-now : let s = c.args in (cs : List (List Open)) → length cs ≡ s.width * s.depth → Shown cs s.cell_indices.now s.cell_counts.now s.ys.now s.«data».now → Cell cs s.cell_indices.now s.cell_counts.now s.ys.now c.loop-l.«data» s.column = λ cs e S. (shown-now cs e S).cell c.args.column (omega (arith, c.requires.column_bound)) in
     let spot : (c.index-first.result + c.loop-l.l < length c.args.ys.now) × (c.index-first.result + c.loop-l.l < length c.loop-l.«data») = let g = c.requires.cs_len in
     let k = cell-now g.0 g.1 g.2 in
     (omega (arith, k.in_ys, c.index-first.ensures, c.loop-l-test.true), omega (arith, k.in_words, c.index-first.ensures, c.loop-l-test.true)) in
@@ -79,6 +80,8 @@ offset_bounds-data-k c =
 
 pub bounds-data-k : goal.bounds-data-k
 bounds-data-k c =
+    let shown-now : let s = c.args in (cs : List (List Open)) → length cs ≡ s.width * s.depth → Shown cs s.cell_indices.now s.cell_counts.now s.ys.now s.«data».now → Shown cs s.cell_indices.now s.cell_counts.now s.ys.now c.loop-l.«data» = λ cs e S. shown-kept S (c.loop-l.invariant.3 cs e S).heights c.loop-l.invariant.2 in
+    let cell-now : let s = c.args in (cs : List (List Open)) → length cs ≡ s.width * s.depth → Shown cs s.cell_indices.now s.cell_counts.now s.ys.now s.«data».now → Cell cs s.cell_indices.now s.cell_counts.now s.ys.now c.loop-l.«data» s.column = λ cs e S. (shown-now cs e S).cell c.args.column (omega (arith, c.requires.column_bound)) in
     let spot : (c.index-first.result + c.loop-l.l < length c.args.ys.now) × (c.index-first.result + c.loop-l.l < length c.loop-l.«data») = let g = c.requires.cs_len in
     let k = cell-now g.0 g.1 g.2 in
     (omega (arith, k.in_ys, c.index-first.ensures, c.loop-l-test.true), omega (arith, k.in_words, c.index-first.ensures, c.loop-l-test.true)) in
@@ -86,6 +89,8 @@ bounds-data-k c =
 
 pub bind-b-requires : goal.bind-b-requires
 bind-b-requires c =
+    let shown-now : let s = c.args in (cs : List (List Open)) → length cs ≡ s.width * s.depth → Shown cs s.cell_indices.now s.cell_counts.now s.ys.now s.«data».now → Shown cs s.cell_indices.now s.cell_counts.now s.ys.now c.loop-l.«data» = λ cs e S. shown-kept S (c.loop-l.invariant.3 cs e S).heights c.loop-l.invariant.2 in
+    let cell-now : let s = c.args in (cs : List (List Open)) → length cs ≡ s.width * s.depth → Shown cs s.cell_indices.now s.cell_counts.now s.ys.now s.«data».now → Cell cs s.cell_indices.now s.cell_counts.now s.ys.now c.loop-l.«data» s.column = λ cs e S. (shown-now cs e S).cell c.args.column (omega (arith, c.requires.column_bound)) in
     let s = c.args in
     let p = c.requires in
     let v = c.loop-l in
@@ -103,6 +108,8 @@ offset_bounds-data-k-in-loop-l c = omega (arith, c.index-first.ensures, c.shared
 
 pub bounds-data-k-in-loop-l : goal.bounds-data-k-in-loop-l
 bounds-data-k-in-loop-l c =
+    let shown-now : let s = c.args in (cs : List (List Open)) → length cs ≡ s.width * s.depth → Shown cs s.cell_indices.now s.cell_counts.now s.ys.now s.«data».now → Shown cs s.cell_indices.now s.cell_counts.now s.ys.now c.loop-l.«data» = λ cs e S. shown-kept S (c.loop-l.invariant.3 cs e S).heights c.loop-l.invariant.2 in
+    let cell-now : let s = c.args in (cs : List (List Open)) → length cs ≡ s.width * s.depth → Shown cs s.cell_indices.now s.cell_counts.now s.ys.now s.«data».now → Cell cs s.cell_indices.now s.cell_counts.now s.ys.now c.loop-l.«data» s.column = λ cs e S. (shown-now cs e S).cell c.args.column (omega (arith, c.requires.column_bound)) in
     let spot : (c.index-first.result + c.loop-l.l < length c.args.ys.now) × (c.index-first.result + c.loop-l.l < length c.loop-l.«data») = let g = c.requires.cs_len in
     let k = cell-now g.0 g.1 g.2 in
     (omega (arith, k.in_ys, c.index-first.ensures, c.loop-l-test.true), omega (arith, k.in_words, c.index-first.ensures, c.loop-l-test.true)) in
@@ -116,6 +123,8 @@ loop-l-smaller c = omega (arith, c.loop-l-test.true)
 
 pub loop-l-preserved : goal.loop-l-preserved
 loop-l-preserved c =
+    let shown-now : let s = c.args in (cs : List (List Open)) → length cs ≡ s.width * s.depth → Shown cs s.cell_indices.now s.cell_counts.now s.ys.now s.«data».now → Shown cs s.cell_indices.now s.cell_counts.now s.ys.now c.loop-l.«data» = λ cs e S. shown-kept S (c.loop-l.invariant.3 cs e S).heights c.loop-l.invariant.2 in
+    let cell-now : let s = c.args in (cs : List (List Open)) → length cs ≡ s.width * s.depth → Shown cs s.cell_indices.now s.cell_counts.now s.ys.now s.«data».now → Cell cs s.cell_indices.now s.cell_counts.now s.ys.now c.loop-l.«data» s.column = λ cs e S. (shown-now cs e S).cell c.args.column (omega (arith, c.requires.column_bound)) in
     let g = c.requires.cs_len in
     let s = c.args in
     let p = c.loop-l.invariant in
@@ -144,6 +153,8 @@ loop-l-preserved c =
 
 pub returns : goal.returns
 returns c =
+    let shown-now : let s = c.args in (cs : List (List Open)) → length cs ≡ s.width * s.depth → Shown cs s.cell_indices.now s.cell_counts.now s.ys.now s.«data».now → Shown cs s.cell_indices.now s.cell_counts.now s.ys.now c.loop-l.«data» = λ cs e S. shown-kept S (c.loop-l.invariant.3 cs e S).heights c.loop-l.invariant.2 in
+    let cell-now : let s = c.args in (cs : List (List Open)) → length cs ≡ s.width * s.depth → Shown cs s.cell_indices.now s.cell_counts.now s.ys.now s.«data».now → Cell cs s.cell_indices.now s.cell_counts.now s.ys.now c.loop-l.«data» s.column = λ cs e S. (shown-now cs e S).cell c.args.column (omega (arith, c.requires.column_bound)) in
     λ cs e S.
     let r = joining-end (c.loop-l.invariant.3 cs e S) (omega (arith, c.loop-l.invariant.0, c.loop-l-test.false, (cell-now cs e S).count)) in
     (r.0, r.1, shown-now cs e S)

@@ -12,11 +12,6 @@ use borrow.Author.Rules.{rules}
 use Rattle.rerecast.proofs.links.look_up.Goals as goal
 use Rattle.rerecast.proofs.links.look_up.Goals.{After-can_pass}
 
--- what the loop tests
-
-test : (c : After-can_pass) → let s = c.args in c.can_pass.result ≡ passes s.q.tall s.q.climb (space s.q.y s.q.height 0) (shown_at s.ys.now s.«data».now (s.first + c.loop-l.l))
-test c = rw c.height_in.ensures at c.can_pass.ensures
-
 pub loop-l-init : goal.loop-l-init
 loop-l-init c = (c.requires.0, omega (arith, c.ranges.n), c.requires.4)
 
@@ -53,6 +48,7 @@ bounds-data-k c = omega (arith, c.requires.2, c.loop-l-test.true)
 
 pub returns-then-can_pass : goal.returns-then-can_pass
 returns-then-can_pass c =
+    let test : let s = c.args in c.can_pass.result ≡ passes s.q.tall s.q.climb (space s.q.y s.q.height 0) (shown_at s.ys.now s.«data».now (s.first + c.loop-l.l)) = rw c.height_in.ensures at c.can_pass.ensures in
     record {
       few = c.loop-l.invariant.0;
       behind = c.loop-l.invariant.2;
@@ -68,6 +64,7 @@ loop-l-smaller c = omega (arith, c.loop-l-test.true)
 
 pub loop-l-preserved : goal.loop-l-preserved
 loop-l-preserved c =
+    let test : let s = c.args in c.can_pass.result ≡ passes s.q.tall s.q.climb (space s.q.y s.q.height 0) (shown_at s.ys.now s.«data».now (s.first + c.loop-l.l)) = rw c.height_in.ensures at c.can_pass.ensures in
     let s = c.args in
     let v = c.loop-l in (
       omega (arith, c.loop-l-test.true),

@@ -21,6 +21,5 @@ returns-in-Granted c =
     let lent : Store = let a = c.args in store a.heads.now (slots a.free a.floors.now a.ceilings.now a.areas.now a.nexts.now) a.marks.now in
     let given : Mesh = mesh c.args.vertices.now c.args.indices.now c.args.triangle_areas.now in
     let marks = c.admit-admission.new.marks in
-    let k = c.admission-in-Granted-1.given in
-    numbers-tested c.args.grid (given) (lent) marks c.mesh_shaped-shaped.result c.mesh_shaped-shaped.ensures c.heads_served-shortest.result c.heads_served-shortest.ensures c.admit_numbers.result k.0.0 k.0.1.0
-    (call-granted c.admit-admission.result c.args.grid c.heads_served-shortest.result (lent) marks c.admit-admission.ensures k.1) c.admit_numbers.ensures
+    numbers-tested c.args.grid (given) (lent) marks c.mesh_shaped-shaped.result c.mesh_shaped-shaped.ensures c.heads_served-shortest.result c.heads_served-shortest.ensures c.admit_numbers.result c.in-Granted.width c.in-Granted.height
+    (call-granted c.admit-admission.result c.args.grid c.heads_served-shortest.result (lent) marks c.admit-admission.ensures c.in-Granted.is) c.admit_numbers.ensures

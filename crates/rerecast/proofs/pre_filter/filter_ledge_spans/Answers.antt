@@ -27,24 +27,29 @@ columns_of-n-requires c = (ready c).0.1
 
 pub slice_bounds-clear_columns-end : goal.slice_bounds-clear_columns-end
 slice_bounds-clear_columns-end c =
-    let ready : ((c.in-Granted.width * c.in-Granted.height ≤ length c.args.heads.now) × (c.in-Granted.width * c.in-Granted.height ≤ 1048576)) × Held (take (c.in-Granted.width * c.in-Granted.height) c.args.heads.now) (lent c.before.before.before.before.before.before.before.before.before.before.before.before.before).slots = call-ready c.admit-admission.result c.args.grid (length c.args.heads.now) (lent c.before.before.before.before.before.before.before.before.before.before.before.before.before) c.admit-admission.new.marks c.admit-admission.ensures c.in-Granted.is in
+    let lent : Store = let a = c.args in store a.heads.now (slots a.free.now a.floors.now a.ceilings.now a.areas.now a.nexts.now) a.marks.now in
+    let ready : ((c.in-Granted.width * c.in-Granted.height ≤ length c.args.heads.now) × (c.in-Granted.width * c.in-Granted.height ≤ 1048576)) × Held (take (c.in-Granted.width * c.in-Granted.height) c.args.heads.now) (lent).slots = call-ready c.admit-admission.result c.args.grid (length c.args.heads.now) (lent) c.admit-admission.new.marks c.admit-admission.ensures c.in-Granted.is in
     sym (length-take-le _ c.args.heads.now (rw c.columns_of-n.ensures (ready).0.0))
 
 pub clear_columns-requires : goal.clear_columns-requires
 clear_columns-requires c =
-    let both = let ready : ((c.in-Granted.width * c.in-Granted.height ≤ length c.args.heads.now) × (c.in-Granted.width * c.in-Granted.height ≤ 1048576)) × Held (take (c.in-Granted.width * c.in-Granted.height) c.args.heads.now) (lent c.before.before.before.before.before.before.before.before.before.before.before.before.before).slots = call-ready c.admit-admission.result c.args.grid (length c.args.heads.now) (lent c.before.before.before.before.before.before.before.before.before.before.before.before.before) c.admit-admission.new.marks c.admit-admission.ensures c.in-Granted.is in
+    let lent : Store = let a = c.args in store a.heads.now (slots a.free.now a.floors.now a.ceilings.now a.areas.now a.nexts.now) a.marks.now in
+    let ready : ((c.in-Granted.width * c.in-Granted.height ≤ length c.args.heads.now) × (c.in-Granted.width * c.in-Granted.height ≤ 1048576)) × Held (take (c.in-Granted.width * c.in-Granted.height) c.args.heads.now) (lent).slots = call-ready c.admit-admission.result c.args.grid (length c.args.heads.now) (lent) c.admit-admission.new.marks c.admit-admission.ensures c.in-Granted.is in
     let r = ready in
-    rw (c.index.ensures, c.index-in-Granted.ensures)
-    ((rw c.columns_of-n.ensures (sym (length-take-le _ c.args.heads.now r.0.0)), r.0.1), (c.args.free.now, rw c.columns_of-n.ensures r.1)) in
-    record { depth_value = both.0; by_index = both.1 }
+    record {
+      depth_value = rw (c.index.ensures, c.index-in-Granted.ensures) (rw c.columns_of-n.ensures (sym (length-take-le _ c.args.heads.now r.0.0)), r.0.1);
+      by_index = (c.args.free.now, rw c.columns_of-n.ensures r.1);
+    }
 
 pub returns-in-Refused : goal.returns-in-Refused
 returns-in-Refused c =
-    filtered-refused c.args.grid (ledges (width c.args.grid) (height c.args.grid) c.args.walkable-height c.args.walkable-climb) (lent c.before.before.before.before.before.before.before.before.before.before.before.before.before) c.admit-admission.new.marks c.in-Refused.r
-    (call-refused c.admit-admission.result c.args.grid (length c.args.heads.now) (lent c.before.before.before.before.before.before.before.before.before.before.before.before.before) c.admit-admission.new.marks c.admit-admission.ensures c.in-Refused.is)
+    let lent : Store = let a = c.args in store a.heads.now (slots a.free.now a.floors.now a.ceilings.now a.areas.now a.nexts.now) a.marks.now in
+    filtered-refused c.args.grid (ledges (width c.args.grid) (height c.args.grid) c.args.walkable_height c.args.walkable_climb) (lent) c.admit-admission.new.marks c.in-Refused.r
+    (call-refused c.admit-admission.result c.args.grid (length c.args.heads.now) (lent) c.admit-admission.new.marks c.admit-admission.ensures c.in-Refused.is)
 
 pub returns-in-Granted : goal.returns-in-Granted
 returns-in-Granted c =
-    let k = call-granted c.admit-admission.result c.args.grid (length c.args.heads.now) (lent c.before.before.before.before.before.before.before.before.before.before.before.before.before.before.before.before.before.before.before.before) c.admit-admission.new.marks c.admit-admission.ensures c.in-Granted.is in
-    filtered-done c.args.grid (ledges (width c.args.grid) (height c.args.grid) c.args.walkable-height c.args.walkable-climb) (lent c.before.before.before.before.before.before.before.before.before.before.before.before.before.before.before.before.before.before.before.before) c.admit-admission.new.marks (length c.args.heads.now) c.clear_columns.new.areas k
+    let lent : Store = let a = c.args in store a.heads.now (slots a.free.now a.floors.now a.ceilings.now a.areas.now a.nexts.now) a.marks.now in
+    let k = call-granted c.admit-admission.result c.args.grid (length c.args.heads.now) (lent) c.admit-admission.new.marks c.admit-admission.ensures c.in-Granted.is in
+    filtered-done c.args.grid (ledges (width c.args.grid) (height c.args.grid) c.args.walkable_height c.args.walkable_climb) (lent) c.admit-admission.new.marks (length c.args.heads.now) c.clear_columns.new.areas k
     ((rw (c.columns_of-n.ensures, c.index.ensures ∙ k.1.0.0, c.index-in-Granted.ensures ∙ k.1.0.1) at c.clear_columns.ensures) c.args.free.now)

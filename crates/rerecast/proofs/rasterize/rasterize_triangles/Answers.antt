@@ -17,8 +17,7 @@ take_mesh-requires c =
     let given : Mesh = mesh c.args.vertices.now c.args.indices.now c.args.triangle_areas.now in
     let r = c.admit_mesh-admission in
     let marks = r.new.marks in
-    let k = c.admission-in-Granted-1.given in
-    mesh-relies k.0.0 k.0.1.0 c.args.grid (given) (lent) marks (mesh-passes r.result c.args.grid (given) (lent) marks r.ensures k.1) in
+    mesh-relies c.in-Granted.width c.in-Granted.height c.args.grid (given) (lent) marks (mesh-passes r.result c.args.grid (given) (lent) marks r.ensures c.in-Granted.is) in
     record { sides = both.0; held = both.1 }
 
 pub returns-in-Refused : goal.returns-in-Refused
@@ -34,7 +33,6 @@ returns-in-Granted c =
     let given : Mesh = mesh c.args.vertices.now c.args.indices.now c.args.triangle_areas.now in
     let r = c.admit_mesh-admission in
     let marks = r.new.marks in
-    let k = c.admission-in-Granted-1.given in
     let l = c.take_mesh.new in
-    mesh-made k.0.0 k.0.1.0 c.args.grid (given) (lent) marks (mesh-passes r.result c.args.grid (given) (lent) marks r.ensures k.1)
+    mesh-made c.in-Granted.width c.in-Granted.height c.args.grid (given) (lent) marks (mesh-passes r.result c.args.grid (given) (lent) marks r.ensures c.in-Granted.is)
     (λ w h. rasterized (frame_of c.args.grid w h) (given) c.args.threshold) (said_of c.take_mesh.result) l.heads (slots l.free l.floors l.ceilings l.areas l.nexts) c.take_mesh.ensures

@@ -52,6 +52,7 @@ overflow_sub-f-2 c = omega (arith, c.requires.ready.sides.some-high)
 -- the last row is one of the grid's
 last-held : (c : After-held_last-last) → c.held_last-last.result ≡ held_last (c.args.job.frame.height - 1) (last_cell c.args.job.frame Z (corners c.before.before.before.before.before.before.before.before.before.before.before.before.before.before.before.before.before.before.before.before.before.before.before.before.before))
 last-held c = 
+    let corners : List Corner = c.args.a ∷ c.args.b ∷ c.args.c ∷ [] in
     let last-is : to_z w32 (of_z w32 c.cell_at-z1.result) ≡ last_cell c.args.job.frame Z (corners) = let f = c.args.job.frame in
     to_z-of_z w32 c.cell_at-z1.result (record { sfits = c.cell_at-z1.type_inv }) ∙ c.cell_at-z1.ensures
     ∙ ap (λ (y : Float). cell_of f.grid.min.z f.inverse y) (c.greatest_of.ensures ∙ ap greatest_of c.three-zs.ensures.1) in

@@ -22,35 +22,31 @@ use Rattle.clip.proofs.Flat.{xs-at}
 use Rattle.field.proofs.Carrying.{remains-is, remains-of}
 use Rattle.field.proofs.Cells.{all_of, row-missed, row-turns}
 use Rattle.rerecast.proofs.rows.row.Goals as goal
-use Rattle.rerecast.proofs.rows.row.Goals.{After-cell_at-x1, After-held_last-last, After-misses, Start}
-
-abbrev start : After-cell_at-x1 → Start
-start c = c
+use Rattle.rerecast.proofs.rows.row.Goals.{After-cell_at-x1, After-held_last-last, After-misses}
 
 abbrev part : After-cell_at-x1 → List Corner
-part c = flat_at (start c).args.xs.now (start c).args.ys.now 0 (start c).args.n
+part c = flat_at c.args.xs.now c.args.ys.now 0 c.args.n
 
 -- the part's xs are the numbers that were put together
-xs-are : (c : After-cell_at-x1) → numbers_at (start c).args.xs.now 0 (min (start c).args.n 28) ≡ map (λ v. v.x) (part c)
-xs-are c = ap (λ (n : ℕ). numbers_at (start c).args.xs.now 0 n) (all_of (start c).args.n (omega (arith, (start c).requires.0.2))) ∙ sym (xs-at _ _ 0 (start c).args.n)
+xs-are : (c : After-cell_at-x1) → numbers_at c.args.xs.now 0 (min c.args.n 28) ≡ map (λ v. v.x) (part c)
+xs-are c = ap (λ (n : ℕ). numbers_at c.args.xs.now 0 n) (all_of c.args.n (omega (arith, c.requires.ready.2))) ∙ sym (xs-at _ _ 0 c.args.n)
 
 pub misses-requires : goal.misses-requires
 misses-requires c = c.requires.ready.0.sides.wide
 
 pub returns-then-misses : goal.returns-then-misses
 returns-then-misses c others f H =
-    let start : Start = c in
-    let part : List Corner = flat_at (start).args.xs.now (start).args.ys.now 0 (start).args.n in
-    let xs-are : numbers_at (start).args.xs.now 0 (min (start).args.n 28) ≡ map (λ v. v.x) (part) = ap (λ (n : ℕ). numbers_at (start).args.xs.now 0 n) (all_of (start).args.n (omega (arith, (start).requires.0.2))) ∙ sym (xs-at _ _ 0 (start).args.n) in
-    let first-is : to_z w32 (of_z w32 c.cell_at-x0.result) ≡ first_cell (start).args.job.frame X (part) = let k = c.cell_at-x0 in
-    let f = (start).args.job.frame in
+    let part : List Corner = flat_at c.args.xs.now c.args.ys.now 0 c.args.n in
+    let xs-are : numbers_at c.args.xs.now 0 (min c.args.n 28) ≡ map (λ v. v.x) (part) = ap (λ (n : ℕ). numbers_at c.args.xs.now 0 n) (all_of c.args.n (omega (arith, c.requires.ready.2))) ∙ sym (xs-at _ _ 0 c.args.n) in
+    let first-is : to_z w32 (of_z w32 c.cell_at-x0.result) ≡ first_cell c.args.job.frame X (part) = let k = c.cell_at-x0 in
+    let f = c.args.job.frame in
     to_z-of_z w32 k.result (record { sfits = k.type_inv }) ∙ k.ensures
     ∙ ap (λ (y : Float). cell_of f.grid.min.x f.inverse y) (c.least_of.ensures ∙ ap least_of (xs-are)) in
-    let last-is : to_z w32 (of_z w32 c.cell_at-x1.result) ≡ last_cell (start).args.job.frame X (part) = let k = c.cell_at-x1 in
-    let f = (start).args.job.frame in
+    let last-is : to_z w32 (of_z w32 c.cell_at-x1.result) ≡ last_cell c.args.job.frame X (part) = let k = c.cell_at-x1 in
+    let f = c.args.job.frame in
     to_z-of_z w32 k.result (record { sfits = k.type_inv }) ∙ k.ensures
     ∙ ap (λ (y : Float). cell_of f.grid.min.x f.inverse y) (c.greatest_of.ensures ∙ ap greatest_of (xs-are)) in
-    let missed : (b : Bool) → c.misses.result ≡ b → lt_z (last_cell (start).args.job.frame X (part)) (pos 0) || le_z (pos (start).args.job.frame.width) (first_cell (start).args.job.frame X (part)) ≡ b = λ b e. rw (← first-is, ← last-is) (sym c.misses.ensures ∙ e) in
+    let missed : (b : Bool) → c.misses.result ≡ b → lt_z (last_cell c.args.job.frame X (part)) (pos 0) || le_z (pos c.args.job.frame.width) (first_cell c.args.job.frame X (part)) ≡ b = λ b e. rw (← first-is, ← last-is) (sym c.misses.ensures ∙ e) in
     let a = c.args in
     remains-is a.job.frame.width a.job.threshold a.job.area a.made (row-missed a.job.frame a.z (part) (missed true c.if-misses.true)) H
 
@@ -64,10 +60,12 @@ pub overflow_sub-f-2 : goal.overflow_sub-f-2
 overflow_sub-f-2 c = omega (arith, c.requires.ready.0.sides.some-wide)
 
 -- the last column is one of the grid's
-last-held : (c : After-held_last-last) → c.held_last-last.result ≡ held_last (c.args.job.frame.width - 1) (last_cell c.args.job.frame X (part))
+last-held : (c : After-held_last-last) → c.held_last-last.result ≡ held_last (c.args.job.frame.width - 1) (last_cell c.args.job.frame X (flat_at c.args.xs.now c.args.ys.now 0 c.args.n))
 last-held c = 
-    let last-is : to_z w32 (of_z w32 c.cell_at-x1.result) ≡ last_cell (start).args.job.frame X (part) = let k = c.cell_at-x1 in
-    let f = (start).args.job.frame in
+    let part : List Corner = flat_at c.args.xs.now c.args.ys.now 0 c.args.n in
+    let xs-are : numbers_at c.args.xs.now 0 (min c.args.n 28) ≡ map (λ v. v.x) (part) = ap (λ (n : ℕ). numbers_at c.args.xs.now 0 n) (all_of c.args.n (omega (arith, c.requires.ready.2))) ∙ sym (xs-at _ _ 0 c.args.n) in
+    let last-is : to_z w32 (of_z w32 c.cell_at-x1.result) ≡ last_cell c.args.job.frame X (part) = let k = c.cell_at-x1 in
+    let f = c.args.job.frame in
     to_z-of_z w32 k.result (record { sfits = k.type_inv }) ∙ k.ensures
     ∙ ap (λ (y : Float). cell_of f.grid.min.x f.inverse y) (c.greatest_of.ensures ∙ ap greatest_of (xs-are)) in
     c.held_last-last.ensures ∙ ap (λ (z : ℤ). held_last (c.args.job.frame.width - 1) z) (last-is)
@@ -75,7 +73,7 @@ last-held c =
 inside : (c : After-held_last-last) → c.held_last-last.result + 1 ≤ c.args.job.frame.width
 inside c =
     
-    let part : List Corner = flat_at (start).args.xs.now (start).args.ys.now 0 (start).args.n in
+    let part : List Corner = flat_at c.args.xs.now c.args.ys.now 0 c.args.n in
     let f = c.args.job.frame in
     omega (arith, last-held c, held-le 0 (f.width - 1) (last_cell f X (part)) (omega arith), c.requires.ready.0.sides.some-wide)
 
@@ -84,11 +82,10 @@ overflow_add-last c = record { fits = omega (arith, inside c, c.requires.ready.0
 
 pub columns-requires : goal.columns-requires
 columns-requires c =
-    let start : Start = c in
-    let part : List Corner = flat_at (start).args.xs.now (start).args.ys.now 0 (start).args.n in
-    let xs-are : numbers_at (start).args.xs.now 0 (min (start).args.n 28) ≡ map (λ v. v.x) (part) = ap (λ (n : ℕ). numbers_at (start).args.xs.now 0 n) (all_of (start).args.n (omega (arith, (start).requires.0.2))) ∙ sym (xs-at _ _ 0 (start).args.n) in
-    let last-is : to_z w32 (of_z w32 c.cell_at-x1.result) ≡ last_cell (start).args.job.frame X (part) = let k = c.cell_at-x1 in
-    let f = (start).args.job.frame in
+    let part : List Corner = flat_at c.args.xs.now c.args.ys.now 0 c.args.n in
+    let xs-are : numbers_at c.args.xs.now 0 (min c.args.n 28) ≡ map (λ v. v.x) (part) = ap (λ (n : ℕ). numbers_at c.args.xs.now 0 n) (all_of c.args.n (omega (arith, c.requires.ready.2))) ∙ sym (xs-at _ _ 0 c.args.n) in
+    let last-is : to_z w32 (of_z w32 c.cell_at-x1.result) ≡ last_cell c.args.job.frame X (part) = let k = c.cell_at-x1 in
+    let f = c.args.job.frame in
     to_z-of_z w32 k.result (record { sfits = k.type_inv }) ∙ k.ensures
     ∙ ap (λ (y : Float). cell_of f.grid.min.x f.inverse y) (c.greatest_of.ensures ∙ ap greatest_of (xs-are)) in
     let last-held : c.held_last-last.result ≡ held_last (c.args.job.frame.width - 1) (last_cell c.args.job.frame X (part)) = c.held_last-last.ensures ∙ ap (λ (z : ℤ). held_last (c.args.job.frame.width - 1) z) (last-is) in
@@ -98,18 +95,17 @@ columns-requires c =
 
 pub returns : goal.returns
 returns c others f H =
-    let start : Start = c in
-    let part : List Corner = flat_at (start).args.xs.now (start).args.ys.now 0 (start).args.n in
-    let xs-are : numbers_at (start).args.xs.now 0 (min (start).args.n 28) ≡ map (λ v. v.x) (part) = ap (λ (n : ℕ). numbers_at (start).args.xs.now 0 n) (all_of (start).args.n (omega (arith, (start).requires.0.2))) ∙ sym (xs-at _ _ 0 (start).args.n) in
-    let first-is : to_z w32 (of_z w32 c.cell_at-x0.result) ≡ first_cell (start).args.job.frame X (part) = let k = c.cell_at-x0 in
-    let f = (start).args.job.frame in
+    let part : List Corner = flat_at c.args.xs.now c.args.ys.now 0 c.args.n in
+    let xs-are : numbers_at c.args.xs.now 0 (min c.args.n 28) ≡ map (λ v. v.x) (part) = ap (λ (n : ℕ). numbers_at c.args.xs.now 0 n) (all_of c.args.n (omega (arith, c.requires.ready.2))) ∙ sym (xs-at _ _ 0 c.args.n) in
+    let first-is : to_z w32 (of_z w32 c.cell_at-x0.result) ≡ first_cell c.args.job.frame X (part) = let k = c.cell_at-x0 in
+    let f = c.args.job.frame in
     to_z-of_z w32 k.result (record { sfits = k.type_inv }) ∙ k.ensures
     ∙ ap (λ (y : Float). cell_of f.grid.min.x f.inverse y) (c.least_of.ensures ∙ ap least_of (xs-are)) in
-    let last-is : to_z w32 (of_z w32 c.cell_at-x1.result) ≡ last_cell (start).args.job.frame X (part) = let k = c.cell_at-x1 in
-    let f = (start).args.job.frame in
+    let last-is : to_z w32 (of_z w32 c.cell_at-x1.result) ≡ last_cell c.args.job.frame X (part) = let k = c.cell_at-x1 in
+    let f = c.args.job.frame in
     to_z-of_z w32 k.result (record { sfits = k.type_inv }) ∙ k.ensures
     ∙ ap (λ (y : Float). cell_of f.grid.min.x f.inverse y) (c.greatest_of.ensures ∙ ap greatest_of (xs-are)) in
-    let missed : (b : Bool) → c.misses.result ≡ b → lt_z (last_cell (start).args.job.frame X (part)) (pos 0) || le_z (pos (start).args.job.frame.width) (first_cell (start).args.job.frame X (part)) ≡ b = λ b e. rw (← first-is, ← last-is) (sym c.misses.ensures ∙ e) in
+    let missed : (b : Bool) → c.misses.result ≡ b → lt_z (last_cell c.args.job.frame X (part)) (pos 0) || le_z (pos c.args.job.frame.width) (first_cell c.args.job.frame X (part)) ≡ b = λ b e. rw (← first-is, ← last-is) (sym c.misses.ensures ∙ e) in
     let last-held : c.held_last-last.result ≡ held_last (c.args.job.frame.width - 1) (last_cell c.args.job.frame X (part)) = c.held_last-last.ensures ∙ ap (λ (z : ℤ). held_last (c.args.job.frame.width - 1) z) (last-is) in
     let a = c.args in
     let j = a.job in
