@@ -5,8 +5,7 @@ use borrow.Author.Rules.{rules}
 use lib.Dec.{T}
 use lib.Ieee.{Float, nan, inf, fin, binary32, ne, is_nan, to_bits}
 use lib.Ieee.Compare.{differs_from_itself, nan_differs}
-use Rattle.c_api.proofs.answers.bits_of.Statement.{statement}
-use Rattle.c_api.proofs.answers.bits_of.Tie as tie
+use Rattle.c_api.proofs.answers.bits_of.Goals as goal
 
 nan-bits : to_bits binary32 nan ≡ 0x7fc0_0000
 unfolding to_bits
@@ -21,14 +20,8 @@ no_nan nan e = subst T (sym nan_differs ∙ e) tt
 no_nan (inf s) e = tt
 no_nan (fin s m d) e = tt
 
-returns : tie.Need-returns
-returns c = of_nan c.before.args.x c.if1.true
+pub returns-then-x : goal.returns-then-x
+returns-then-x c = of_nan c.args.x c.if-x.true
 
-float-to-bits-result : tie.Need-float-to-bits-result
-float-to-bits-result c = no_nan c.before.args.x c.if1.false
-
-returns-2 : tie.Need-returns-2
-returns-2 c = search rules
-
-pub bits-of-spec : {M : Type 1} → statement M
-bits-of-spec = tie.close (tie.spec returns float-to-bits-result returns-2)
+pub float_to_bits-result : goal.float_to_bits-result
+float_to_bits-result c = no_nan c.args.x c.if-x.false

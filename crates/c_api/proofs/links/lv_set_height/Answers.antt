@@ -1,0 +1,6 @@
+-- `links::lv_set_height` meets its contract: the span with this word takes the height.
+use borrow.Author.Rules.{rules}
+use Rattle.c_api.proofs.links.lv_set_height.Goals as goal
+
+pub returns : goal.returns
+returns c = rw (c.set_height.ensures, c.span_of.ensures)

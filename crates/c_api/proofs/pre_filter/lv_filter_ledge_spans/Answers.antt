@@ -1,0 +1,9 @@
+-- `pre_filter::lv_filter_ledge_spans` meets its contract: the library filters, and its reply is told.
+use borrow.Author.Rules.{rules}
+use Rattle.rerecast.specs.Answer.{said_of}
+use Rattle.c_api.proofs.pre_filter.lv_filter_ledge_spans.Goals as goal
+
+pub returns : goal.returns
+returns c =
+    let called = c.filter_ledge_spans-reply in
+    (said_of called.result, rw c.grid_of.ensures at called.ensures, c.tell.ensures)
