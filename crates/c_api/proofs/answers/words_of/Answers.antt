@@ -3,9 +3,7 @@ use mathlib.Core.Path.{◌≡◌, refl, sym, ap}
 use mathlib.Core.List.{List, [], ◌∷◌}
 use Prim.Native.Nat.{ℕ}
 use borrow.Author.Rules.{rules}
-use types.Run.{OneOf, miss}
-use denote.Enum.Declared.{tag_of}
-use Rattle.rerecast.specs.contracts.Reply.{the_type}
+use lib.Ieee.{Float}
 use Rattle.rerecast.specs.Answer.{said_of}
 use Rattle.c_api.specs.Words.{words_of}
 use Rattle.rerecast.specs.declared.Reply.{Reply}
@@ -16,28 +14,28 @@ use Rattle.c_api.proofs.answers.words_of.Goals as goal
 worded : {a b : Reply} → b ≡ a → words_of (said_of a).values ≡ words_of (said_of b).values
 worded e = ap (λ (r : Reply). words_of (said_of r).values) (sym e)
 
--- the places, in the list of cases, of those that carry nothing
-abbrev bare : List ℕ
-bare = 0 ∷ 2 ∷ 4 ∷ 5 ∷ 6 ∷ 7 ∷ 8 ∷ 11 ∷ 12 ∷ 13 ∷ []
-
-zeros : (r : Reply) → OneOf bare (tag_of the_type r) → 0 ∷ 0 ∷ 0 ∷ 0 ∷ [] ≡ words_of (said_of r).values
-zeros Accepted k = refl
-zeros (BadNumber x) k = absurd (miss bare 1 tt k)
-zeros BoxOrder k = refl
-zeros (GridSize w h) k = absurd (miss bare 3 tt k)
-zeros Slices k = refl
-zeros Unsound k = refl
-zeros OffGrid k = refl
-zeros Inverted k = refl
-zeros NoSlot k = refl
-zeros (Compacted top) k = absurd (miss bare 9 tt k)
-zeros (Layers layer top) k = absurd (miss bare 10 tt k)
-zeros Crowded k = refl
-zeros SpansShort k = refl
-zeros NoVertex k = refl
-zeros (NoSlotAt t made) k = absurd (miss bare 14 tt k)
-zeros (EighthVertex t made) k = absurd (miss bare 15 tt k)
-zeros (TooHigh t made) k = absurd (miss bare 16 tt k)
+-- the replies that carry nothing
+zeros : (r : Reply) → ((x : Float) → r ≡ BadNumber x → ⊥) → ((w h : Float) → r ≡ GridSize w h → ⊥) → ((top : Float) → r ≡ Compacted top → ⊥)
+    → ((layer : ℕ) (top : Float) → r ≡ Layers layer top → ⊥) → ((t made : ℕ) → r ≡ NoSlotAt t made → ⊥)
+    → ((t made : ℕ) → r ≡ EighthVertex t made → ⊥) → ((t made : ℕ) → r ≡ TooHigh t made → ⊥)
+    → 0 ∷ 0 ∷ 0 ∷ 0 ∷ [] ≡ words_of (said_of r).values
+zeros Accepted a b c d e f g = refl
+zeros (BadNumber x) a b c d e f g = absurd (a x refl)
+zeros BoxOrder a b c d e f g = refl
+zeros (GridSize w h) a b c d e f g = absurd (b w h refl)
+zeros Slices a b c d e f g = refl
+zeros Unsound a b c d e f g = refl
+zeros OffGrid a b c d e f g = refl
+zeros Inverted a b c d e f g = refl
+zeros NoSlot a b c d e f g = refl
+zeros (Compacted top) a b c d e f g = absurd (c top refl)
+zeros (Layers layer top) a b c d e f g = absurd (d layer top refl)
+zeros Crowded a b c d e f g = refl
+zeros SpansShort a b c d e f g = refl
+zeros NoVertex a b c d e f g = refl
+zeros (NoSlotAt t made) a b c d e f g = absurd (e t made refl)
+zeros (EighthVertex t made) a b c d e f g = absurd (f t made refl)
+zeros (TooHigh t made) a b c d e f g = absurd (g t made refl)
 
 pub returns-in-BadNumber : goal.returns-in-BadNumber
 returns-in-BadNumber c = rw c.bits_of.ensures (worded c.in-BadNumber.is)
@@ -61,4 +59,6 @@ pub returns-in-TooHigh : goal.returns-in-TooHigh
 returns-in-TooHigh c = worded c.in-TooHigh.is
 
 pub returns-in_default : goal.returns-in_default
-returns-in_default c = zeros c.args.reply c.in-BadNumber.keys8
+returns-in_default c =
+    let m = c.in_default in
+    zeros c.args.reply m.not-BadNumber m.not-GridSize m.not-Compacted m.not-Layers m.not-NoSlotAt m.not-EighthVertex m.not-TooHigh

@@ -3,10 +3,6 @@ use borrow.Author.Rules.{rules}
 use Rattle.rerecast.specs.Answer.{said_of}
 use Rattle.c_api.proofs.pre_filter.lv_filter_walkable_low_height_spans.Goals as goal
 
-  statement,
-}
-
-
 pub returns : goal.returns
 returns c =
     let called = c.filter_walkable_low_height_spans-reply in
