@@ -9,7 +9,7 @@ use Rattle.field.specs.declared.Span.{Span}
 use Rattle.field.specs.Slots.{Slots}
 use Rattle.field.specs.Field.{Field}
 use Rattle.field.specs.Store.{Store, Outcome, left}
-use Rattle.field.specs.Calls.{Made, made, Freshened, Added}
+use Rattle.field.specs.Calls.{made, Freshened, Added}
 use Rattle.field.specs.Filters.{Filtered}
 use Rattle.field.specs.Compact as compact
 use Rattle.field.specs.Meshes.{Mesh, Rasterized}

@@ -1,15 +1,15 @@
 -- The cells beside a column, as the code holds them: the rows are long enough for them, and show the layers that the rule speaks of.
-use mathlib.Core.Path.{◌≡◌, refl, sym, ap, ap₂, ◌∙◌}
+use mathlib.Core.Path.{◌≡◌, refl, ap, ap₂, ◌∙◌}
 use mathlib.Core.Logic.{◌≢◌}
 use mathlib.Core.List.{List, [], ◌∷◌, map}
-use Prim.Native.Nat.{ℕ, zero, suc, ◌+◌, ◌*◌, ◌<◌, ◌≤◌}
+use Prim.Native.Nat.{ℕ, suc, ◌*◌, ◌<◌}
 use native.Mathlib.Omega.{arith}
 use lib.ListN.{length, get_or}
 use Rattle.field.specs.Slots.{none}
 use Rattle.field.specs.Beside.{beside}
 use Rattle.field.specs.Open.{Open, space}
 use Rattle.field.specs.Links.{passes, around, word_of, missed_of}
-use Rattle.field.specs.Rowing.{shown_at, bare, Cell, Shown}
+use Rattle.field.specs.Rowing.{bare, Shown}
 use Rattle.field.proofs.Sides.{Beside, beside-shown, beside-inside, word-bare, missed-of-bare}
 use Rattle.rerecast.specs.Compacting.{side_of, layers_of, Within}
 use Rattle.rerecast.specs.declared.sides.Side.{Side}

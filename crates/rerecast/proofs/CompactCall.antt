@@ -4,16 +4,16 @@ use mathlib.Core.Logic.{inl, inr}
 use mathlib.Core.List.{List, flatten}
 use Prim.Native.Nat.{ℕ, ◌*◌, ◌≤◌, min}
 use native.Mathlib.Omega.{arith}
-use lib.ListN.{length, take, replicate}
+use lib.ListN.{length, take}
 use lib.Ieee.{Float}
 use Rattle.replies.specs.Said.{Said, just}
 use Rattle.grid.specs.declared.Grid.{Grid}
-use Rattle.grid.specs.Grid.{width, height, columns, grid_says}
-use Rattle.field.specs.Field.{Field, Holds, Held}
-use Rattle.field.specs.Store.{Store, store, Fitting, cleared, left}
+use Rattle.grid.specs.Grid.{width, height, columns}
+use Rattle.field.specs.Field.{Field, Holds}
+use Rattle.field.specs.Store.{Store, store, cleared}
 use Rattle.field.specs.Open.{Open, columns_of, cells}
 use Rattle.field.specs.Links.{passes, largest_missed}
-use Rattle.field.specs.Compact.{Rows, Result, Suiting, Room, Few, complete, outcome, keeping, raised_top, complete_says, Compacts, Compacted}
+use Rattle.field.specs.Compact.{Result, Suiting, Room, Few, complete, outcome, keeping, raised_top, complete_says, Compacts, Compacted}
 use Rattle.field.proofs.Admitting.{admits-past, admits-swap, admits-refused}
 use Rattle.rerecast.specs.Answer.{said_of}
 use Rattle.rerecast.specs.declared.Reply.{Reply}

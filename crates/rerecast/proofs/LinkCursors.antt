@@ -1,18 +1,18 @@
 -- The cursors of the links: what a look through a cell's layers says of all of them, and that what is behind stays behind while a column is climbed and linked.
-use mathlib.Core.Path.{◌≡◌, refl, ap, subst}
-use mathlib.Core.Bool.{Bool, true, false, not}
+use mathlib.Core.Path.{◌≡◌, refl}
+use mathlib.Core.Bool.{false, not}
 use mathlib.Core.List.{List, [], ◌∷◌}
-use Prim.Native.Nat.{ℕ, zero, suc, ◌+◌, ◌<◌, ◌≤◌}
+use Prim.Native.Nat.{ℕ, zero, suc, ◌+◌, ◌≤◌}
 use native.Mathlib.Omega.{arith}
 use borrow.Author.Tests.{leb-true, leb-false, ltb-true, ltb-false, lt-ltb, le-ltb}
 use lib.ListN.{get_or, drop}
 use lib.Dec.{leb, ltb}
-use Rattle.field.specs.Open.{Open, space}
+use Rattle.field.specs.Open.{Open}
 use Rattle.field.specs.Links.{passes}
-use Rattle.field.specs.Rowing.{shown_at, Behind, NonePasses}
+use Rattle.field.specs.Rowing.{NonePasses}
 use Rattle.field.proofs.Basics.{by-test}
 use Rattle.field.proofs.Joining.{Heights}
-use Rattle.rerecast.specs.Compacting.{Left, AllLeft, Looked}
+use Rattle.rerecast.specs.Compacting.{AllLeft, Looked}
 use Rattle.rerecast.specs.declared.links.Look.{Look}
 use Rattle.rerecast.specs.declared.sides.Side.{Side}
 

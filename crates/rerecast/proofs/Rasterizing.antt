@@ -3,7 +3,7 @@
 use mathlib.Core.Path.{◌≡◌, refl, sym, ap, subst, ◌∙◌}
 use mathlib.Core.Bool.{Bool, true, false, ◌&&◌}
 use mathlib.Core.List.{List, [], ◌∷◌}
-use Prim.Native.Nat.{ℕ, ◌+◌, ◌*◌, ◌≤◌, ◌<◌}
+use Prim.Native.Nat.{ℕ, ◌+◌, ◌*◌, ◌≤◌}
 use native.Mathlib.Omega.{arith}
 use lib.Dec.{leb}
 use lib.ListN.{length}
@@ -12,7 +12,7 @@ use Rattle.grid.specs.declared.Corner.{Corner}
 use Rattle.grid.specs.declared.Grid.{Grid}
 use Rattle.clip.specs.declared.cut.Counts.{Counts}
 use Rattle.clip.specs.declared.frame.Frame.{Frame}
-use Rattle.clip.specs.Work.{Event, insert as offer, stop, and_then, frame_of}
+use Rattle.clip.specs.Work.{Event, insert as offer, and_then, frame_of}
 use Rattle.field.specs.Slots.{Slots}
 use Rattle.field.specs.Field.{Field, Holds, Inserted, insert}
 use Rattle.field.specs.Carrying.{Carried, went, stopped, carry}
@@ -20,7 +20,7 @@ use Rattle.field.specs.Working.{Remains, turn_events}
 use Rattle.field.proofs.Basics.{by-test}
 use Rattle.field.proofs.Carrying.{made_in, made-few, insertion-made, insertion-refused, remains-then, remains-as}
 use Rattle.rerecast.specs.Inner.{Lands}
-use Rattle.rerecast.specs.Rasterize.{number_of, made_by, left_by, Carries, Sides, Ready}
+use Rattle.rerecast.specs.Rasterize.{made_by, left_by, Carries, Sides, Ready}
 use Rattle.rerecast.specs.declared.insertion.Landing.{Landing}
 use Rattle.rerecast.specs.declared.insertion.Landing.TheVariants.{Landed, Refused}
 use Rattle.rerecast.specs.declared.turns.Job.{Job}

@@ -1,5 +1,4 @@
 -- `answers::tell` meets its contract: the words are written, and the number is returned.
-use borrow.Author.Rules.{rules}
 use Rattle.c_api.proofs.answers.tell.Goals as goal
 
 pub returns : goal.returns

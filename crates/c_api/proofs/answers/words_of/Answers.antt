@@ -1,8 +1,7 @@
 -- `answers::words_of` meets its contract: each arm gives the words of its case, and the cases without an arm of their own carry nothing.
 use mathlib.Core.Path.{◌≡◌, refl, sym, ap}
-use mathlib.Core.List.{List, [], ◌∷◌}
+use mathlib.Core.List.{[], ◌∷◌}
 use Prim.Native.Nat.{ℕ}
-use borrow.Author.Rules.{rules}
 use lib.Ieee.{Float}
 use Rattle.rerecast.specs.Answer.{said_of}
 use Rattle.c_api.specs.Words.{words_of}

@@ -1,5 +1,4 @@
 -- `compact_heightfield::lv_into_compact` meets its contract: the library fills the result, and its reply is told.
-use borrow.Author.Rules.{rules}
 use Rattle.rerecast.specs.Answer.{said_of}
 use Rattle.c_api.proofs.compact_heightfield.lv_into_compact.Goals as goal
 

@@ -1,5 +1,4 @@
 -- `heightfield::lv_add_span` meets its contract: the library takes the span, and its reply is told.
-use borrow.Author.Rules.{rules}
 use Rattle.rerecast.specs.Answer.{said_of}
 use Rattle.c_api.proofs.heightfield.lv_add_span.Goals as goal
 

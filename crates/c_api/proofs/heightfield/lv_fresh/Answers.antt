@@ -1,5 +1,4 @@
 -- `heightfield::lv_fresh` meets its contract: the library makes the fresh field, and its reply is told.
-use borrow.Author.Rules.{rules}
 use Rattle.rerecast.specs.Answer.{said_of}
 use Rattle.c_api.proofs.heightfield.lv_fresh.Goals as goal
 

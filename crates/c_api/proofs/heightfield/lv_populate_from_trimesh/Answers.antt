@@ -1,5 +1,4 @@
 -- `heightfield::lv_populate_from_trimesh` meets its contract: the library places the mesh and filters, and its reply is told.
-use borrow.Author.Rules.{rules}
 use Rattle.rerecast.specs.Answer.{said_of}
 use Rattle.c_api.proofs.heightfield.lv_populate_from_trimesh.Goals as goal
 

@@ -1,5 +1,4 @@
 -- `links::lv_con` meets its contract: the span with this word answers, and the link that it names is told by its number.
-use borrow.Author.Rules.{rules}
 use Rattle.c_api.proofs.Linking.{read-refused, read_done}
 use Rattle.c_api.proofs.links.lv_con.Goals as goal
 

@@ -1,5 +1,4 @@
 -- `links::lv_set_height` meets its contract: the span with this word takes the height.
-use borrow.Author.Rules.{rules}
 use Rattle.c_api.proofs.links.lv_set_height.Goals as goal
 
 pub returns : goal.returns

@@ -1,5 +1,4 @@
 -- `links::put_link` meets its contract: the span with this word answers, and its new word is kept.
-use borrow.Author.Rules.{rules}
 use Rattle.c_api.proofs.Linking.{set-refused, set-done}
 use Rattle.c_api.proofs.links.put_link.Goals as goal
 

@@ -1,5 +1,4 @@
 -- `pre_filter::lv_filter_low_hanging_walkable_obstacles` meets its contract: the library filters, and its reply is told.
-use borrow.Author.Rules.{rules}
 use Rattle.rerecast.specs.Answer.{said_of}
 use Rattle.c_api.proofs.pre_filter.lv_filter_low_hanging_walkable_obstacles.Goals as goal
 

@@ -1,5 +1,4 @@
 -- `rasterize::lv_rasterize_triangles` meets its contract: the library places the mesh, and its reply is told.
-use borrow.Author.Rules.{rules}
 use Rattle.rerecast.specs.Answer.{said_of}
 use Rattle.c_api.proofs.rasterize.lv_rasterize_triangles.Goals as goal
 

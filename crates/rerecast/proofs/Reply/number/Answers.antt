@@ -1,5 +1,4 @@
 -- `Reply::number` meets its contract: case by case, the number is the one that the answer says.
-use borrow.Author.Rules.{rules}
 use mathlib.Core.Path.{◌≡◌, sym, ap}
 use Rattle.rerecast.specs.Answer.{said_of}
 use Rattle.rerecast.specs.declared.Reply.{Reply}

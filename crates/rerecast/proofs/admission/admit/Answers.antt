@@ -1,7 +1,6 @@
 -- `admit` meets its contract: the grid's tests, and past them the store's.
 use mathlib.Core.Path.{ap}
 use mathlib.Core.Logic.{inl}
-use borrow.Author.Rules.{rules}
 use Rattle.replies.specs.Said.{Said}
 use Rattle.field.specs.Slots.{slots}
 use Rattle.field.specs.Store.{store, left}

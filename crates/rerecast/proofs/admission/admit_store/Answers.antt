@@ -4,7 +4,6 @@ use mathlib.Core.Path.{refl, sym, ap}
 use mathlib.Core.Logic.{inl, inr}
 use mathlib.Core.List.{List}
 use native.Mathlib.Omega.{arith}
-use borrow.Author.Rules.{rules}
 use lib.Seq.{length-take-le}
 use Rattle.replies.specs.Said.{just}
 use Rattle.field.specs.Slots.{slots}

@@ -1,7 +1,6 @@
 -- `columns_of` meets its contract: the product of the two numbers fits.
 use mathlib.Core.Path.{refl}
 use native.Mathlib.Omega.{arith}
-use borrow.Author.Rules.{rules}
 use Rattle.rerecast.proofs.admission.columns_of.Goals as goal
 
 pub overflow_mul-result : goal.overflow_mul-result

@@ -1,7 +1,6 @@
 -- `size_of` meets its contract: each answer of the grid's tests is passed on.
 use mathlib.Core.Path.{sym}
 use mathlib.Core.List.{[], ◌∷◌}
-use borrow.Author.Rules.{rules}
 use Rattle.replies.specs.Said.{real}
 use Rattle.grid.proofs.Accepted as grids
 use Rattle.rerecast.proofs.admission.size_of.Goals as goal

@@ -1,6 +1,5 @@
 -- `slices_fit` meets its contract: past its tests the last one decides.
 use native.Mathlib.Omega.{arith}
-use borrow.Author.Rules.{rules}
 use borrow.Author.Tests.{leb-true, leb-false}
 use lib.Dec.{leb}
 use Rattle.field.proofs.Basics.{says_if}

@@ -12,7 +12,6 @@ use Rattle.field.specs.Open.{columns_of, cells}
 use Rattle.field.specs.Compact.{rows, result_of, Room, Few}
 use Rattle.field.proofs.Basics.{says-true, says-false}
 use Rattle.rerecast.proofs.CompactCall.{total-told, crowded-told, ends-crowded, ends-short, ends-complete}
-use borrow.Author.Rules.{rules}
 use mathlib.Core.Path.{ap}
 use mathlib.Core.Bool.{not}
 use Rattle.rerecast.proofs.compact_heightfield.compact_field.Goals as goal
@@ -28,7 +27,6 @@ long c = rw c.columns_of-n.ensures (length-take-le (c.args.width * c.args.height
 
 room : (c : Else-not-room) → let s = c.args in (free : ℕ) (f : Field) → Holds (take (s.width * s.height) s.heads.now) (slots free s.floors.now s.ceilings.now s.areas.now s.nexts.now) f → Room (length (flatten (cells (columns_of f)))) (rows s.ys.now s.«data».now s.span_areas.now)
 room c free f H =
-    
     let counted : let s = c.args in (free : ℕ) (f : Field) → Holds (take (s.width * s.height) s.heads.now) (slots free s.floors.now s.ceilings.now s.areas.now s.nexts.now) f → Few (cells (columns_of f)) × (c.in-Total.total ≡ length (flatten (cells (columns_of f)))) = λ free f H. let s = c.args in
     total-told c.tally_columns-tally.result (cells (columns_of f)) (c.tally_columns-tally.ensures free s.floors.now s.ceilings.now f (rw c.columns_of-n.ensures H)) c.in-Total.is in
     let s = c.args in

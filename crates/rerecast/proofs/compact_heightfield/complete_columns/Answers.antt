@@ -13,7 +13,6 @@ use Rattle.field.specs.Rowing.{Shown}
 use Rattle.field.proofs.Opening.{columns-wide, cells_wide, column-ascends}
 use Rattle.field.proofs.ReadingBack.{shown_of}
 use Rattle.field.proofs.Sides.{completed}
-use borrow.Author.Rules.{rules}
 use Rattle.rerecast.proofs.compact_heightfield.complete_columns.Goals as goal
 use Rattle.rerecast.proofs.compact_heightfield.complete_columns.Goals.{After-fill_columns, Start}
 

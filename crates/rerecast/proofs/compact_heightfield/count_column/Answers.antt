@@ -3,10 +3,8 @@ use Prim.Native.Nat.{◌≤◌, ◌<◌}
 use lib.ListN.{length}
 use native.Mathlib.Omega.{arith}
 use Rattle.field.specs.Slots.{none}
-use Rattle.field.specs.Inner.{slots_from}
 use Rattle.field.proofs.Chains.{chain-cons, chain-less}
-use Rattle.field.proofs.Tallying.{Tallying, tallying-start, tallying-slot, tallying-step, tallying-end}
-use borrow.Author.Rules.{rules}
+use Rattle.field.proofs.Tallying.{tallying-start, tallying-slot, tallying-step, tallying-end}
 use Rattle.rerecast.proofs.compact_heightfield.count_column.Goals as goal
 use Rattle.rerecast.proofs.compact_heightfield.count_column.Goals.{In-loop-at}
 

@@ -1,12 +1,7 @@
 -- The loop's invariant: what is counted, and what is left of the column, make the count of the whole. The column gets shorter.
-use Prim.Native.Nat.{◌≤◌, ◌<◌}
 use lib.ListN.{length}
-use native.Mathlib.Omega.{arith}
-use Rattle.field.specs.Slots.{none}
 use Rattle.field.specs.Inner.{slots_from}
-use Rattle.field.proofs.Chains.{chain-cons, chain-less}
-use Rattle.field.proofs.Tallying.{Tallying, tallying-start, tallying-slot, tallying-step, tallying-end}
-use borrow.Author.Rules.{rules}
+use Rattle.field.proofs.Tallying.{Tallying}
 use Rattle.rerecast.proofs.compact_heightfield.count_column.Given as goal
 
 abbrev pub invariant-loop-at : goal.invariant-loop-at

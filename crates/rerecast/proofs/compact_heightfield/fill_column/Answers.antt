@@ -5,13 +5,11 @@ use mathlib.Core.List.{List, map}
 use lib.ListN.{length, get_or}
 use native.Mathlib.Omega.{arith}
 use Rattle.field.specs.Slots.{none, contents, span_at}
-use Rattle.field.specs.Inner.{Chain, slots_from}
+use Rattle.field.specs.Inner.{Chain}
 use Rattle.field.specs.Walkable.{roof}
-use Rattle.field.specs.Compact.{rows}
 use Rattle.field.proofs.Chains.{chain-cons, chain-less}
 use Rattle.field.proofs.Upward.{roof-of}
-use Rattle.field.proofs.Laying.{Laying, laying-start, laying-slot, laying-roof, laying-room, laying-under, laying-step, laying-end}
-use borrow.Author.Rules.{rules}
+use Rattle.field.proofs.Laying.{laying-start, laying-slot, laying-roof, laying-room, laying-under, laying-step, laying-end}
 use Rattle.rerecast.proofs.compact_heightfield.fill_column.Goals as goal
 use Rattle.rerecast.proofs.compact_heightfield.fill_column.Goals.{After-roof_of-top, In-loop-at}
 

@@ -1,17 +1,8 @@
 -- The loop's invariant: the open spaces left of the column end as all of it would. The column gets shorter.
-use Prim.Native.Nat.{ℕ, ◌≤◌, ◌<◌}
-use mathlib.Core.Path.{◌≡◌, sym, ◌∙◌}
-use mathlib.Core.List.{List, map}
-use lib.ListN.{length, get_or}
-use native.Mathlib.Omega.{arith}
-use Rattle.field.specs.Slots.{none, contents, span_at}
-use Rattle.field.specs.Inner.{Chain, slots_from}
-use Rattle.field.specs.Walkable.{roof}
+use lib.ListN.{length}
+use Rattle.field.specs.Inner.{slots_from}
 use Rattle.field.specs.Compact.{rows}
-use Rattle.field.proofs.Chains.{chain-cons, chain-less}
-use Rattle.field.proofs.Upward.{roof-of}
-use Rattle.field.proofs.Laying.{Laying, laying-start, laying-slot, laying-roof, laying-room, laying-under, laying-step, laying-end}
-use borrow.Author.Rules.{rules}
+use Rattle.field.proofs.Laying.{Laying}
 use Rattle.rerecast.proofs.compact_heightfield.fill_column.Given as goal
 
 abbrev pub invariant-loop-at : goal.invariant-loop-at

@@ -1,14 +1,12 @@
 -- The loop's invariant: what is left of the columns ends as all of them would, and the slices keep their lengths.
-use Prim.Native.Nat.{ℕ, ◌<◌, ◌-◌}
+use Prim.Native.Nat.{◌<◌}
 use lib.ListN.{length}
 use native.Mathlib.Numerals.{add-one}
 use native.Mathlib.Omega.{arith}
-use Rattle.field.specs.Slots.{slots}
-use Rattle.field.specs.Field.{Field, column_at, Holds}
+use Rattle.field.specs.Field.{column_at}
 use Rattle.field.specs.Open.{columns_of}
-use Rattle.field.specs.Compact.{rows, result_of}
 use Rattle.field.proofs.Holding.{column-chain}
-use Rattle.field.proofs.Filling.{Shape, shape-start, Filling, filling-start, filling-end, cell-few, cell-layable, stored-place, stored-index, filling_step, shape-step}
+use Rattle.field.proofs.Filling.{shape-start, filling-start, filling-end, cell-few, cell-layable, stored-place, stored-index, filling_step, shape-step}
 use Rattle.rerecast.proofs.compact_heightfield.fill_columns.Goals as goal
 use Rattle.rerecast.proofs.compact_heightfield.fill_columns.Goals.{In-loop-i}
 

@@ -2,7 +2,6 @@
 use borrow.Author.Tests.{leb-true, leb-false}
 use native.Mathlib.Omega.{arith}
 use Rattle.field.proofs.Basics.{says_if}
-use borrow.Author.Rules.{rules}
 use Rattle.rerecast.proofs.compact_heightfield.has_room.Goals as goal
 
 pub returns : goal.returns

@@ -1,6 +1,5 @@
 -- The index of a column by the test of its count; a place is small enough for a u32.
 use borrow.Author.Tests.{eq-eqb, ne_eqb}
-use borrow.Author.Rules.{rules}
 use Rattle.rerecast.proofs.compact_heightfield.index_of.Goals as goal
 
 pub returns-then-count-eq0 : goal.returns-then-count-eq0

@@ -2,10 +2,8 @@
 use Rattle.field.specs.Slots.{slots}
 use Rattle.field.specs.Store.{Store, store}
 use Rattle.field.specs.Compact.{Result, rows, result_of}
-use Rattle.rerecast.specs.declared.admission.Admission.TheVariants as admission
 use Rattle.rerecast.proofs.Admitted.{call-granted, call-refused, call-ready}
 use Rattle.rerecast.proofs.CompactCall.{compacted-refused, field-ready, compacted-field}
-use borrow.Author.Rules.{rules}
 use Rattle.rerecast.proofs.compact_heightfield.into_compact.Goals as goal
 use Rattle.rerecast.proofs.compact_heightfield.into_compact.Goals.{Start}
 

@@ -1,6 +1,5 @@
 -- A count with one span more: two tests, two answers.
 use borrow.Author.Tests.{eq-eqb, ne_eqb}
-use borrow.Author.Rules.{rules}
 use Rattle.rerecast.proofs.compact_heightfield.one_more.Goals as goal
 
 pub returns-then-area-eq-NOT_WALKABLE : goal.returns-then-area-eq-NOT_WALKABLE

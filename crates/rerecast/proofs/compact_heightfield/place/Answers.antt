@@ -9,7 +9,6 @@ use Rattle.compact_span.specs.Span.{fresh_span}
 use Rattle.field.specs.Compact.{Room, rows}
 use Rattle.field.proofs.Laying.{raised-none}
 use Rattle.rerecast.proofs.Compacting.{raised-once}
-use borrow.Author.Rules.{rules}
 use Rattle.rerecast.proofs.compact_heightfield.place.Goals as goal
 use Rattle.rerecast.proofs.compact_heightfield.place.Goals.{Else-span-eq-NOT_WALKABLE}
 

@@ -1,16 +1,10 @@
 -- The loop's invariant: the cells so far are few enough, and their open spaces are counted.
-use Prim.Native.Nat.{ℕ, ◌≤◌, ◌-◌, ◌*◌}
-use mathlib.Core.List.{List}
-use lib.ListN.{length}
 use native.Mathlib.Numerals.{add-one}
 use native.Mathlib.Omega.{arith}
-use Rattle.field.specs.Slots.{slots}
-use Rattle.field.specs.Field.{Field, Holds}
 use Rattle.field.specs.Open.{columns_of, cells}
 use Rattle.field.proofs.Holding.{column-chain}
 use Rattle.field.proofs.Opening.{cells_wide}
-use Rattle.field.proofs.Tallying.{Adding, adding-start, adding-step, adding-end, counted}
-use borrow.Author.Rules.{rules}
+use Rattle.field.proofs.Tallying.{adding-start, adding-step, adding-end, counted}
 use Rattle.rerecast.proofs.compact_heightfield.tally_columns.Goals as goal
 
 pub loop-i-init : goal.loop-i-init
@@ -43,8 +37,7 @@ pub loop-i-smaller : goal.loop-i-smaller
 loop-i-smaller c = omega arith
 
 pub loop-i-preserved : goal.loop-i-preserved
-loop-i-preserved c =
-    (
+loop-i-preserved c = (
   omega arith,
   omega arith,
   λ free fl ce f H.

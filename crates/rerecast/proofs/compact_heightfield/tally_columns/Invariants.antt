@@ -2,15 +2,10 @@
 use Prim.Native.Nat.{ℕ, ◌≤◌, ◌-◌, ◌*◌}
 use mathlib.Core.List.{List}
 use lib.ListN.{length}
-use native.Mathlib.Numerals.{add-one}
-use native.Mathlib.Omega.{arith}
 use Rattle.field.specs.Slots.{slots}
 use Rattle.field.specs.Field.{Field, Holds}
 use Rattle.field.specs.Open.{columns_of, cells}
-use Rattle.field.proofs.Holding.{column-chain}
-use Rattle.field.proofs.Opening.{cells_wide}
-use Rattle.field.proofs.Tallying.{Adding, adding-start, adding-step, adding-end, counted}
-use borrow.Author.Rules.{rules}
+use Rattle.field.proofs.Tallying.{Adding}
 use Rattle.rerecast.proofs.compact_heightfield.tally_columns.Given as goal
 
 abbrev pub invariant-loop-i : goal.invariant-loop-i

@@ -1,6 +1,4 @@
 -- `add_span` meets its contract: the tests of every call, and past them the offer.
-use mathlib.Core.Path.{refl}
-use borrow.Author.Rules.{rules}
 use lib.ListN.{length}
 use Rattle.field.specs.Slots.{slots}
 use Rattle.field.specs.Store.{store}

@@ -1,17 +1,16 @@
 -- `heightfield::build` meets its contract: a mesh that stopped is left as it is, and one placed whole is filtered.
-use borrow.Author.Rules.{rules}
-use mathlib.Core.Path.{◌≡◌, sym, ap, subst, ◌∙◌}
+use mathlib.Core.Path.{◌≡◌, sym, subst, ◌∙◌}
 use mathlib.Core.List.{[], append-nil}
 use Rattle.replies.specs.Said.{whole}
 use Rattle.field.specs.Slots.{slots}
 use Rattle.field.specs.Field.{Field, Holds}
 use Rattle.field.specs.Carrying.{Meshed, leaves}
 use Rattle.field.specs.Meshes.{Mesh, mesh, rasterized}
-use Rattle.field.specs.Populate.{filtered_by, afterwards}
+use Rattle.field.specs.Populate.{filtered_by}
 use Rattle.field.proofs.Populating.{placed-filtered, halted-kept}
-use Rattle.rerecast.specs.Rasterize.{number_of, ending_says, MeshWorked}
+use Rattle.rerecast.specs.Rasterize.{number_of, MeshWorked}
 use Rattle.rerecast.specs.declared.rasterize.Ending.{Ending}
-use Rattle.rerecast.specs.declared.rasterize.Ending.TheVariants.{Placed, Halted}
+use Rattle.rerecast.specs.declared.rasterize.Ending.TheVariants.{Halted}
 use Rattle.rerecast.proofs.heightfield.build.Goals as goal
 use Rattle.rerecast.proofs.heightfield.build.Goals.{After-triangles-ending, Start}
 

@@ -1,7 +1,6 @@
 -- `column_of` meets its contract: inside the grid the number is below the number of columns.
 use mathlib.Core.Path.{refl}
 use native.Mathlib.Omega.{arith}
-use borrow.Author.Rules.{rules}
 use Rattle.grid.proofs.Places.{cell_below}
 use Rattle.rerecast.proofs.heightfield.column_of.Goals as goal
 

@@ -1,6 +1,4 @@
 -- `heightfield::filter_all` meets its contract: each filter finds the sound field that the one before leaves.
-use borrow.Author.Rules.{rules}
-use mathlib.Core.Path.{◌∙◌}
 use Rattle.field.specs.Slots.{slots}
 use Rattle.field.specs.Field.{Held}
 use Rattle.field.specs.Filters.{low_obstacles, ledges}

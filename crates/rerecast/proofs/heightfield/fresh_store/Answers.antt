@@ -2,7 +2,6 @@
 use Prim.Native.Nat.{◌*◌}
 use mathlib.Core.Path.{refl, sym}
 use mathlib.Core.Logic.{inl, inr}
-use borrow.Author.Rules.{rules}
 use lib.Seq.{length-take-le}
 use Rattle.field.specs.Slots.{slots}
 use Rattle.field.proofs.Basics.{says-true, says-false}

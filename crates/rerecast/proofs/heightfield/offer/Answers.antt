@@ -2,7 +2,6 @@
 use mathlib.Core.Path.{refl, sym}
 use mathlib.Core.Logic.{inl, inr}
 use native.Mathlib.Omega.{arith}
-use borrow.Author.Rules.{rules}
 use lib.Seq.{length-take-le}
 use Rattle.field.specs.Slots.{slots}
 use Rattle.field.specs.Field.{insert}

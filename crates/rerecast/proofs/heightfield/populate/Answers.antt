@@ -1,8 +1,6 @@
 -- `heightfield::populate` meets its contract: mesh and filters work on the heads of the grid's columns, and the heads past them stay.
-use borrow.Author.Rules.{rules}
 use mathlib.Core.Path.{sym, ◌∙◌}
 use native.Mathlib.Omega.{arith}
-use lib.ListN.{length}
 use lib.Seq.{length-take-le}
 use Rattle.clip.specs.Work.{frame_of}
 use Rattle.field.specs.Slots.{Slots, slots}

@@ -1,6 +1,4 @@
 -- `populate_from_trimesh` meets its contract: the tests of a mesh, and past them its triangles and the filters.
-use borrow.Author.Rules.{rules}
-use mathlib.Core.Path.{refl}
 use Rattle.clip.specs.Work.{frame_of}
 use Rattle.grid.specs.Grid.{width, height}
 use Rattle.field.specs.Slots.{slots}

@@ -1,5 +1,4 @@
 -- `give_back` meets its contract: its stores are those of the definition, at the slot's index.
-use borrow.Author.Rules.{rules}
 use Rattle.rerecast.proofs.insertion.give_back.Goals as goal
 
 pub returns : goal.returns

@@ -1,6 +1,5 @@
 -- `insert_span` meets its contract: what its four steps promise, put together, is what the rule says.
 use mathlib.Core.Path.{◌∙◌}
-use borrow.Author.Rules.{rules}
 use Rattle.field.proofs.Landing.{pass-chain, merge-chain, is-refused, take-ready, link-ready, landed, is-accepted}
 use Rattle.rerecast.proofs.insertion.insert_span.Goals as goal
 

@@ -1,5 +1,4 @@
 -- `join` meets its contract, near the old ceiling and far above it.
-use borrow.Author.Rules.{rules}
 use Rattle.field.proofs.Merging.{joined-near, joined-far}
 use Rattle.rerecast.proofs.insertion.join.Goals as goal
 

@@ -1,5 +1,4 @@
 -- `link` meets its contract: the test for no slot decides which of the two lists is stored to.
-use borrow.Author.Rules.{rules}
 use borrow.Author.Tests.{eq-eqb, ne_eqb}
 use Rattle.field.specs.Slots.{none}
 use Rattle.rerecast.proofs.insertion.link.Goals as goal

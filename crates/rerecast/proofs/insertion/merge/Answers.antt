@@ -1,12 +1,10 @@
 -- `merge` meets its contract. The loop's invariant: merging what is left of the chain ends as the whole would. The measure is how many slots are left.
 use Prim.Native.Nat.{◌≤◌, ◌<◌}
 use native.Mathlib.Omega.{arith}
-use borrow.Author.Rules.{rules}
 use lib.ListN.{length}
 use Rattle.field.specs.Slots.{none, slots}
-use Rattle.field.specs.Inner.{slots_from}
 use Rattle.field.proofs.Chains.{chain-slot}
-use Rattle.field.proofs.Merging.{Merging, merging_start, merging-turn, merging-less, merging-room, merging-sizes, merging-stop, merging-end}
+use Rattle.field.proofs.Merging.{merging_start, merging-turn, merging-less, merging-room, merging-stop, merging-end}
 use Rattle.rerecast.proofs.insertion.merge.Goals as goal
 use Rattle.rerecast.proofs.insertion.merge.Goals.{In-loop-at}
 

@@ -1,12 +1,8 @@
 -- `merge` meets its contract. The loop's invariant: merging what is left of the chain ends as the whole would. The measure is how many slots are left.
-use Prim.Native.Nat.{◌≤◌, ◌<◌}
-use native.Mathlib.Omega.{arith}
-use borrow.Author.Rules.{rules}
 use lib.ListN.{length}
-use Rattle.field.specs.Slots.{none, slots}
+use Rattle.field.specs.Slots.{slots}
 use Rattle.field.specs.Inner.{slots_from}
-use Rattle.field.proofs.Chains.{chain-slot}
-use Rattle.field.proofs.Merging.{Merging, merging_start, merging-turn, merging-less, merging-room, merging-sizes, merging-stop, merging-end}
+use Rattle.field.proofs.Merging.{Merging}
 use Rattle.rerecast.proofs.insertion.merge.Given as goal
 
 abbrev pub invariant-loop-at : goal.invariant-loop-at

@@ -1,13 +1,8 @@
 -- `pass` meets its contract. The loop's invariant: what is left of the column ends as the whole would. The measure is how many slots are left.
-use Prim.Native.Nat.{◌≤◌, ◌<◌}
 use mathlib.Core.Path.{◌≡◌}
-use native.Mathlib.Omega.{arith}
-use borrow.Author.Rules.{rules}
 use lib.ListN.{length}
-use Rattle.field.specs.Slots.{none}
 use Rattle.field.specs.Inner.{slots_from}
-use Rattle.field.proofs.Chains.{chain-slot, chain-cons, chain-less}
-use Rattle.field.proofs.Passing.{Passing, passing-start, passing_step, passing-stop, passing-end}
+use Rattle.field.proofs.Passing.{Passing}
 use Rattle.rerecast.proofs.insertion.pass.Given as goal
 
 abbrev pub invariant-loop-at : goal.invariant-loop-at

@@ -1,13 +1,11 @@
 -- `clear_all` meets its contract: what is left of the column ends as the whole would.
 use mathlib.Core.Path.{refl}
-use Prim.Native.Nat.{ℕ, ◌<◌, ◌≤◌}
-use mathlib.Core.List.{List, []}
+use Prim.Native.Nat.{◌<◌, ◌≤◌}
+use mathlib.Core.List.{[]}
 use lib.ListN.{length}
 use native.Mathlib.Omega.{arith}
 use Rattle.field.specs.Slots.{none}
-use Rattle.field.specs.Inner.{slots_from}
-use Rattle.field.proofs.Upward.{Upward, upward-start, upward-slot, upward-less, upward-step, upward-end}
-use borrow.Author.Rules.{rules}
+use Rattle.field.proofs.Upward.{upward-start, upward-slot, upward-less, upward-step, upward-end}
 use Rattle.rerecast.proofs.ledges.clear_all.Goals as goal
 use Rattle.rerecast.proofs.ledges.clear_all.Goals.{In-loop-at}
 

@@ -5,7 +5,6 @@ use lib.ListN.{length}
 use native.Mathlib.Omega.{arith}
 use Rattle.grid.proofs.Places.{cell_below}
 use Rattle.field.proofs.Chains.{chain-nil}
-use borrow.Author.Rules.{rules}
 use Rattle.rerecast.proofs.ledges.clear_column.Goals as goal
 use Rattle.rerecast.proofs.ledges.clear_column.Goals.{Start}
 

@@ -1,18 +1,12 @@
 -- `clear_columns` meets its contract: after each column, what is left of them ends as the whole would.
 use Prim.Native.Nat.{ℕ, ◌+◌, ◌*◌, ◌-◌, ◌<◌, ◌≤◌}
-use mathlib.Core.Path.{◌≡◌, refl, subst, ◌∙◌}
-use mathlib.Core.List.{List, [], map}
-use lib.ListN.{length, get_or}
-use native.Mathlib.Numerals.{add-one}
-use native.Mathlib.Nat.{zero-mul, mul_comm}
-use native.Mathlib.Omega.{arith}
-use Rattle.field.specs.Slots.{contents, span_at, slots}
+use mathlib.Core.Path.{◌≡◌}
+use lib.ListN.{length}
+use Rattle.field.specs.Slots.{slots}
 use Rattle.field.specs.Field.{Field, spans, Holds}
-use Rattle.field.specs.Inner.{Chain}
 use Rattle.field.specs.Beside.{beside}
-use Rattle.field.specs.Filters.{ruled, assign, firm}
-use Rattle.field.proofs.Beside.{some-width, row_below, side-below}
-use Rattle.field.proofs.Sweeping.{Sweep, sweep-begin, sweep-step, sweep-end}
+use Rattle.field.specs.Filters.{firm}
+use Rattle.field.proofs.Sweeping.{Sweep}
 use Rattle.rerecast.proofs.ledges.clear_columns.Given as goal
 
 abbrev pub invariant-loop-i : goal.invariant-loop-i

@@ -6,13 +6,11 @@ use lib.ListN.{length, get_or}
 use native.Mathlib.Omega.{arith}
 use Rattle.field.specs.Slots.{none, contents, slots}
 use Rattle.field.specs.Field.{Field, spans, Holds}
-use Rattle.field.specs.Inner.{slots_from}
 use Rattle.field.specs.FilterCode.{roof_at, around, greatest, hollow_of, Cursors}
 use Rattle.field.proofs.Upward.{upward-slot, upward-next, upward-less, upward-end}
 use Rattle.field.proofs.Cursors.{cursors-first, hollow-first, around-inside}
 use Rattle.field.proofs.Ledging.{Ledging, ledging-start, ledging-serves, ledging-step}
 use Rattle.rerecast.specs.PreFilter.{sides_of}
-use borrow.Author.Rules.{rules}
 use Rattle.rerecast.proofs.ledges.clear_inner.Goals as goal
 use Rattle.rerecast.proofs.ledges.clear_inner.Goals.{After-hollow_of-hollow, At-loop-at, In-loop-at}
 

@@ -1,18 +1,12 @@
 -- `clear_inner` meets its contract: what is left of the column ends as the whole would, and a cursor in each column beside serves an agent that stands there.
-use Prim.Native.Nat.{ℕ, ◌<◌, ◌≤◌}
-use mathlib.Core.Path.{◌≡◌, sym, ap, subst, ◌∙◌, refl}
-use mathlib.Core.List.{List, map}
+use Prim.Native.Nat.{ℕ}
+use mathlib.Core.List.{List}
 use lib.ListN.{length, get_or}
-use native.Mathlib.Omega.{arith}
-use Rattle.field.specs.Slots.{none, contents, slots}
-use Rattle.field.specs.Field.{Field, spans, Holds}
+use Rattle.field.specs.Slots.{slots}
+use Rattle.field.specs.Field.{Field, Holds}
 use Rattle.field.specs.Inner.{slots_from}
-use Rattle.field.specs.FilterCode.{roof_at, around, greatest, hollow_of, Cursors}
-use Rattle.field.proofs.Upward.{upward-slot, upward-next, upward-less, upward-end}
-use Rattle.field.proofs.Cursors.{cursors-first, hollow-first, around-inside}
-use Rattle.field.proofs.Ledging.{Ledging, ledging-start, ledging-serves, ledging-step}
+use Rattle.field.proofs.Ledging.{Ledging}
 use Rattle.rerecast.specs.PreFilter.{sides_of}
-use borrow.Author.Rules.{rules}
 use Rattle.rerecast.proofs.ledges.clear_inner.Given as goal
 
 abbrev pub invariant-loop-at : goal.invariant-loop-at

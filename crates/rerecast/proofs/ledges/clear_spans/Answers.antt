@@ -14,7 +14,6 @@ use Rattle.field.proofs.Holding.{column-chain, column-distinct}
 use Rattle.field.proofs.Beside.{beside-off, beside-around, inner_below, rim-not}
 use Rattle.field.proofs.Assigning.{ruled-agree}
 use Rattle.field.proofs.Looking.{firm-off}
-use borrow.Author.Rules.{rules}
 use Rattle.rerecast.proofs.ledges.clear_spans.Goals as goal
 use Rattle.rerecast.proofs.ledges.clear_spans.Goals.{Else-on_rim, Start}
 

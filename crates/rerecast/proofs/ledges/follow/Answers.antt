@@ -15,5 +15,8 @@ skip-requires-4 c = let p = c.requires in let k = p.by_index.5.1.1.1.0 in record
 
 pub returns : goal.returns
 returns c =
-    record { by_index_2 = λ ceilings areas at w i k.
-      (c.skip.ensures.by_index_2 ceilings areas _ k.0, (c.skip-2.ensures.by_index_2 ceilings areas _ k.1.0, (c.skip-3.ensures.by_index_2 ceilings areas _ k.1.1.0, (c.skip-4.ensures.by_index_2 ceilings areas _ k.1.1.1.0, tt)))); all_under = (c.skip.ensures.under, c.skip-2.ensures.under, c.skip-3.ensures.under, c.skip-4.ensures.under) }
+    record {
+      by_index_2 = λ ceilings areas at w i k.
+          (c.skip.ensures.by_index_2 ceilings areas _ k.0, (c.skip-2.ensures.by_index_2 ceilings areas _ k.1.0, (c.skip-3.ensures.by_index_2 ceilings areas _ k.1.1.0, (c.skip-4.ensures.by_index_2 ceilings areas _ k.1.1.1.0, tt))));
+      all_under = (c.skip.ensures.under, c.skip-2.ensures.under, c.skip-3.ensures.under, c.skip-4.ensures.under);
+    }

@@ -3,7 +3,6 @@ use Prim.Native.Nat.{ℕ, max}
 use mathlib.Core.Path.{◌≡◌, ap, ◌∙◌}
 use native.Mathlib.Omega.{arith}
 use Rattle.field.proofs.Chains.{chain-slot}
-use borrow.Author.Rules.{rules}
 use Rattle.rerecast.proofs.ledges.hollow_of.Goals as goal
 
 in_pairs : (a b c d : ℕ) → max (max a b) (max c d) ≡ max a (max b (max c (max d 0)))

@@ -10,7 +10,6 @@ use Rattle.field.specs.LedgeTest.{ledge}
 use Rattle.field.specs.FilterCode.{around, Inside, hollow_of, Cursors}
 use Rattle.field.proofs.Looking.{ledge-low, ledge-gap, ledge-look}
 use Rattle.rerecast.specs.PreFilter.{stand_of, sides_of}
-use borrow.Author.Rules.{rules}
 use Rattle.rerecast.proofs.ledges.judge.Goals as goal
 use Rattle.rerecast.proofs.ledges.judge.Goals.{After-follow-further, After-looks_steep}
 
@@ -36,10 +35,10 @@ returns-then-wide-need c =
 pub returns-then-need-wide : goal.returns-then-need-wide
 returns-then-need-wide c =
     λ areas at w i k. (
-  k,
-  λ inside h.
-      rw (ledge-gap (stand_of c.args.st) at (i - 1) ((i + w) ∷ (i + 1) ∷ (i - w) ∷ []) inside (omega (arith, c.if-wide-need.false, c.wide-3.ensures, c.wide-2.ensures, c.wide.ensures)) (omega (arith, c.if-need-wide.true, c.wide-4.ensures, c.wide-2.ensures, c.wide.ensures))),
-)
+      k,
+      λ inside h.
+          rw (ledge-gap (stand_of c.args.st) at (i - 1) ((i + w) ∷ (i + 1) ∷ (i - w) ∷ []) inside (omega (arith, c.if-wide-need.false, c.wide-3.ensures, c.wide-2.ensures, c.wide.ensures)) (omega (arith, c.if-need-wide.true, c.wide-4.ensures, c.wide-2.ensures, c.wide.ensures))),
+    )
 
 pub follow-further-requires : goal.follow-further-requires
 follow-further-requires c =

@@ -2,17 +2,14 @@
 use Prim.Native.Nat.{◌+◌, ◌<◌, ◌≤◌}
 use lib.ListN.{length, get_or}
 use native.Mathlib.Omega.{arith}
-use mathlib.Core.Path.{◌≡◌, sym, ◌∙◌}
-use mathlib.Core.Bool.{false}
+use mathlib.Core.Path.{sym, ◌∙◌}
 use mathlib.Core.List.{map}
 use borrow.Author.Tests.{not-true, not-false, leb-true, leb-false}
 use Rattle.field.specs.Slots.{none, contents, span_at}
-use Rattle.field.specs.Inner.{slots_from}
 use Rattle.field.specs.Walkable.{open_top}
 use Rattle.field.proofs.Looking.{looked-drop}
 use Rattle.field.proofs.LookingUp.{LookingUp, looking-start, looking-slot, looking-next, looking-less, looking-step, looking-drop, looking-stop, looking-end}
 use Rattle.rerecast.specs.PreFilter.{stand_of, view_of}
-use borrow.Author.Rules.{rules}
 use mathlib.Core.Path.{ap}
 use mathlib.Core.Bool.{not}
 use Rattle.rerecast.proofs.ledges.look.Goals as goal

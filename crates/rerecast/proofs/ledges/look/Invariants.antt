@@ -1,20 +1,10 @@
 -- `look` meets its contract: looking at what is left of the column ends as looking at the whole, so it may stop at a drop and at a span that is too high.
-use Prim.Native.Nat.{◌+◌, ◌<◌, ◌≤◌}
-use lib.ListN.{length, get_or}
-use native.Mathlib.Omega.{arith}
-use mathlib.Core.Path.{◌≡◌, sym, ◌∙◌}
+use lib.ListN.{length}
+use mathlib.Core.Path.{◌≡◌}
 use mathlib.Core.Bool.{false}
-use mathlib.Core.List.{map}
-use borrow.Author.Tests.{not-true, not-false, leb-true, leb-false}
-use Rattle.field.specs.Slots.{none, contents, span_at}
 use Rattle.field.specs.Inner.{slots_from}
-use Rattle.field.specs.Walkable.{open_top}
-use Rattle.field.proofs.Looking.{looked-drop}
-use Rattle.field.proofs.LookingUp.{LookingUp, looking-start, looking-slot, looking-next, looking-less, looking-step, looking-drop, looking-stop, looking-end}
+use Rattle.field.proofs.LookingUp.{LookingUp}
 use Rattle.rerecast.specs.PreFilter.{stand_of, view_of}
-use borrow.Author.Rules.{rules}
-use mathlib.Core.Path.{ap}
-use mathlib.Core.Bool.{not}
 use Rattle.rerecast.proofs.ledges.look.Given as goal
 
 abbrev pub invariant-loop-at : goal.invariant-loop-at

@@ -10,7 +10,6 @@ use Rattle.field.specs.FilterCode.{around, Cursors}
 use Rattle.field.proofs.Looking.{not-leb}
 use Rattle.field.proofs.Cursors.{cursor-look, look-around}
 use Rattle.rerecast.specs.PreFilter.{stand_of, view_of, sides_of}
-use borrow.Author.Rules.{rules}
 use Rattle.rerecast.proofs.ledges.looks_steep.Goals as goal
 use Rattle.rerecast.proofs.ledges.looks_steep.Goals.{After-look-d}
 

@@ -4,7 +4,6 @@ use borrow.Author.Tests.{not-true, not-false}
 use Rattle.field.specs.LedgeTest.{roomy}
 use Rattle.field.proofs.Looking.{roomy-between, see-shut, see-falls, see-above, see-level}
 use Rattle.rerecast.specs.PreFilter.{stand_of, view_of}
-use borrow.Author.Rules.{rules}
 use mathlib.Core.Path.{ap}
 use mathlib.Core.Bool.{not}
 use Rattle.rerecast.proofs.ledges.see.Goals as goal

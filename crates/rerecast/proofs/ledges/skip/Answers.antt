@@ -1,16 +1,11 @@
 -- `skip` meets its contract: whatever slot the loop has come to is a cursor.
-use Prim.Native.Nat.{ℕ, ◌<◌, ◌≤◌}
-use mathlib.Core.List.{List}
+use Prim.Native.Nat.{◌<◌, ◌≤◌}
 use lib.ListN.{length}
 use native.Mathlib.Omega.{arith}
-use Rattle.field.specs.declared.Span.{Span}
 use Rattle.field.specs.Slots.{none, contents}
-use Rattle.field.specs.Inner.{Chain, slots_from}
-use Rattle.field.specs.FilterCode.{Cursor}
 use Rattle.field.proofs.Chains.{chain-slot, chain-cons, chain-less}
 use Rattle.field.proofs.Upward.{roof-of}
 use Rattle.field.proofs.Cursors.{cursor-next}
-use borrow.Author.Rules.{rules}
 use Rattle.rerecast.proofs.ledges.skip.Goals as goal
 use Rattle.rerecast.proofs.ledges.skip.Goals.{In-loop-at}
 

@@ -5,7 +5,6 @@ use Rattle.field.specs.Links.{passes}
 use Rattle.field.specs.Rowing.{shown}
 use Rattle.rerecast.specs.declared.sides.Side.{Side}
 use Rattle.rerecast.proofs.Compacting.{bound-word, bound-missed}
-use borrow.Author.Rules.{rules}
 use Rattle.rerecast.proofs.links.bind.Goals as goal
 
 pub link_to-a-requires : goal.link_to-a-requires

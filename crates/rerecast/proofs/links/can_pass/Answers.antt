@@ -1,7 +1,6 @@
 -- The tests on wider numbers are the rule's: no sum wraps.
 use mathlib.Core.Path.{sym, ◌∙◌}
 use borrow.Author.Tests.{lt-leb, le-leb, not-true, not-false}
-use borrow.Author.Rules.{rules}
 use mathlib.Core.Path.{ap}
 use mathlib.Core.Bool.{not}
 use Rattle.rerecast.proofs.links.can_pass.Goals as goal

@@ -1,7 +1,6 @@
 -- The tests on wider numbers are the rule's: no sum wraps.
 use mathlib.Core.Path.{ap, ◌∙◌}
 use mathlib.Core.Bool.{not}
-use borrow.Author.Rules.{rules}
 use borrow.Author.Tests.{lt-ltb, le-ltb}
 use Rattle.rerecast.proofs.LinkCursors.{not-leb}
 use Rattle.rerecast.proofs.links.is_past.Goals as goal

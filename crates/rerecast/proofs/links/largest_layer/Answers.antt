@@ -1,15 +1,14 @@
 -- The loop's invariant: the largest layer that passes is the best so far, or is among those left. From a layer that is past on there is none.
-use Prim.Native.Nat.{ℕ, ◌≤◌, ◌+◌, ◌-◌, max}
+use Prim.Native.Nat.{ℕ, ◌+◌, ◌-◌}
 use mathlib.Core.Path.{◌≡◌, sym, ap, ◌∙◌}
 use mathlib.Core.Bool.{Bool}
 use native.Mathlib.Omega.{arith}
 use lib.ListN.{get_or}
 use Rattle.field.specs.Open.{Open, space}
 use Rattle.field.specs.Links.{passes, largest}
-use Rattle.field.specs.Rowing.{shown_at, shown}
+use Rattle.field.specs.Rowing.{shown_at}
 use Rattle.field.proofs.Climbing.{past-none}
 use Rattle.field.proofs.Layers.{rest, largest-next, largest-end, largest-skip, largest-none}
-use borrow.Author.Rules.{rules}
 use Rattle.rerecast.proofs.links.largest_layer.Goals as goal
 use Rattle.rerecast.proofs.links.largest_layer.Goals.{After-can_pass}
 

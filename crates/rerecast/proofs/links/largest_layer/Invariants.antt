@@ -1,15 +1,10 @@
 -- The loop's invariant: the largest layer that passes is the best so far, or is among those left. From a layer that is past on there is none.
-use Prim.Native.Nat.{ℕ, ◌≤◌, ◌+◌, ◌-◌, max}
-use mathlib.Core.Path.{◌≡◌, sym, ap, ◌∙◌}
-use mathlib.Core.Bool.{Bool}
-use native.Mathlib.Omega.{arith}
-use lib.ListN.{get_or}
-use Rattle.field.specs.Open.{Open, space}
+use Prim.Native.Nat.{◌≤◌, ◌+◌, ◌-◌}
+use mathlib.Core.Path.{◌≡◌}
+use Rattle.field.specs.Open.{space}
 use Rattle.field.specs.Links.{passes, largest}
-use Rattle.field.specs.Rowing.{shown_at, shown}
-use Rattle.field.proofs.Climbing.{past-none}
-use Rattle.field.proofs.Layers.{rest, largest-next, largest-end, largest-skip, largest-none}
-use borrow.Author.Rules.{rules}
+use Rattle.field.specs.Rowing.{shown}
+use Rattle.field.proofs.Layers.{rest}
 use Rattle.rerecast.proofs.links.largest_layer.Given as goal
 
 abbrev pub invariant-loop-l : goal.invariant-loop-l

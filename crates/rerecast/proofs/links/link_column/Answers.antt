@@ -1,11 +1,9 @@
 -- `link_column` meets its contract: an empty column has no open space to link, and any other is linked space by space.
 use mathlib.Core.Path.{◌≡◌, refl, sym, ◌∙◌}
-use mathlib.Core.List.{List, []}
+use mathlib.Core.List.{[]}
 use native.Mathlib.Omega.{arith}
 use lib.ListN.{get_or}
-use Rattle.field.specs.Open.{Open}
 use Rattle.field.proofs.Basics.{no_length}
-use borrow.Author.Rules.{rules}
 use Rattle.rerecast.proofs.links.link_column.Goals as goal
 
 pub returns-then-cell_counts-column-eq0 : goal.returns-then-cell_counts-column-eq0

@@ -1,14 +1,12 @@
 -- The loop's invariant: what is left of the columns ends as all of them would.
 use Prim.Native.Nat.{◌≤◌, ◌*◌, ◌-◌}
-use mathlib.Core.Path.{◌≡◌, refl, ◌∙◌}
+use mathlib.Core.Path.{◌≡◌}
 use mathlib.Core.List.{List}
 use lib.ListN.{length}
-use native.Mathlib.Numerals.{add-one}
-use native.Mathlib.Omega.{arith}
 use Rattle.field.specs.Open.{Open}
 use Rattle.field.specs.Links.{passes, around, word_of, missed_of}
 use Rattle.field.specs.Rowing.{Shown}
-use Rattle.field.proofs.Joining.{Threading, threading-start, threading-step, threading-end}
+use Rattle.field.proofs.Joining.{Threading}
 use Rattle.rerecast.proofs.links.link_columns.Given as goal
 
 abbrev pub invariant-loop-i : goal.invariant-loop-i

@@ -1,6 +1,6 @@
 -- The loop's invariant: the open spaces left of the column end as all of them would, and what the cursors passed is behind whoever stands higher than those done.
 -- Words change, and the heights in them stay, so the cells are still there.
-use Prim.Native.Nat.{ℕ, ◌≤◌, ◌<◌, ◌*◌, ◌+◌, ◌-◌, max}
+use Prim.Native.Nat.{◌<◌, ◌*◌, ◌+◌, max}
 use mathlib.Core.Path.{◌≡◌, refl, sym, ap, ◌∙◌}
 use mathlib.Core.List.{List, [], ◌∷◌}
 use lib.ListN.{length, get_or, length-set}
@@ -8,15 +8,14 @@ use native.Mathlib.Numerals.{add-one}
 use native.Mathlib.Omega.{arith}
 use Rattle.compact_span.specs.Word.{height_of}
 use Rattle.field.specs.Open.{Open}
-use Rattle.field.specs.Links.{passes, around, word_of, missed_of}
+use Rattle.field.specs.Links.{passes, around}
 use Rattle.field.specs.Rowing.{Cell, Shown}
 use Rattle.field.proofs.Opening.{nowhere}
-use Rattle.field.proofs.Joining.{Joining, joining-start, joining-step, joining-end, layer-is, shown-kept}
+use Rattle.field.proofs.Joining.{joining-start, joining-step, joining-end, layer-is, shown-kept}
 use Rattle.field.proofs.Sides.{word-height}
-use Rattle.rerecast.specs.Compacting.{sides_of, cursors_of, AllLeft}
+use Rattle.rerecast.specs.Compacting.{sides_of, cursors_of}
 use Rattle.rerecast.proofs.Around.{sides-within, word-is, missed-is}
 use Rattle.rerecast.proofs.LinkCursors.{none_left, no-cursors, left-on}
-use borrow.Author.Rules.{rules}
 use Rattle.rerecast.proofs.links.link_spans.Goals as goal
 use Rattle.rerecast.proofs.links.link_spans.Goals.{At-loop-l, In-loop-l}
 
@@ -27,7 +26,6 @@ shown-now c cs e S = shown-kept S (c.loop-l.invariant.3 cs e S).heights c.loop-l
 -- the place of a turn is one of the rows
 spot : (c : In-loop-l) → (c.index-first.result + c.loop-l.l < length c.args.ys.now) × (c.index-first.result + c.loop-l.l < length c.loop-l.«data»)
 spot c =
-    
     let shown-now : let s = c.args in (cs : List (List Open)) → length cs ≡ s.width * s.depth → Shown cs s.cell_indices.now s.cell_counts.now s.ys.now s.«data».now → Shown cs s.cell_indices.now s.cell_counts.now s.ys.now c.loop-l.«data» = λ cs e S. shown-kept S (c.loop-l.invariant.3 cs e S).heights c.loop-l.invariant.2 in
     let cell-now : let s = c.args in (cs : List (List Open)) → length cs ≡ s.width * s.depth → Shown cs s.cell_indices.now s.cell_counts.now s.ys.now s.«data».now → Cell cs s.cell_indices.now s.cell_counts.now s.ys.now c.loop-l.«data» s.column = λ cs e S. (shown-now cs e S).cell c.args.column (omega (arith, c.requires.column_bound)) in
     let g = c.requires.cs_len in

@@ -1,22 +1,14 @@
 -- The loop's invariant: the open spaces left of the column end as all of them would, and what the cursors passed is behind whoever stands higher than those done.
 -- Words change, and the heights in them stay, so the cells are still there.
-use Prim.Native.Nat.{ℕ, ◌≤◌, ◌<◌, ◌*◌, ◌+◌, ◌-◌, max}
-use mathlib.Core.Path.{◌≡◌, refl, sym, ap, ◌∙◌}
-use mathlib.Core.List.{List, [], ◌∷◌}
-use lib.ListN.{length, get_or, length-set}
-use native.Mathlib.Numerals.{add-one}
-use native.Mathlib.Omega.{arith}
-use Rattle.compact_span.specs.Word.{height_of}
+use Prim.Native.Nat.{ℕ, ◌≤◌, ◌<◌, ◌*◌, ◌+◌, ◌-◌}
+use mathlib.Core.Path.{◌≡◌}
+use mathlib.Core.List.{List, []}
+use lib.ListN.{length, get_or}
 use Rattle.field.specs.Open.{Open}
 use Rattle.field.specs.Links.{passes, around, word_of, missed_of}
-use Rattle.field.specs.Rowing.{Cell, Shown}
-use Rattle.field.proofs.Opening.{nowhere}
-use Rattle.field.proofs.Joining.{Joining, joining-start, joining-step, joining-end, layer-is, shown-kept}
-use Rattle.field.proofs.Sides.{word-height}
+use Rattle.field.specs.Rowing.{Shown}
+use Rattle.field.proofs.Joining.{Joining}
 use Rattle.rerecast.specs.Compacting.{sides_of, cursors_of, AllLeft}
-use Rattle.rerecast.proofs.Around.{sides-within, word-is, missed-is}
-use Rattle.rerecast.proofs.LinkCursors.{none_left, no-cursors, left-on}
-use borrow.Author.Rules.{rules}
 use Rattle.rerecast.proofs.links.link_spans.Given as goal
 
 abbrev pub invariant-loop-l : goal.invariant-loop-l

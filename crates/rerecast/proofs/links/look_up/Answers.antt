@@ -1,14 +1,13 @@
 -- The loop's invariant: the layers passed are behind. A layer that is not reached is behind too, unless it is past.
-use Prim.Native.Nat.{◌≤◌, ◌+◌, ◌-◌}
+use Prim.Native.Nat.{◌+◌}
 use mathlib.Core.Path.{◌≡◌, sym, ◌∙◌}
 use mathlib.Core.Bool.{true≢false}
 use native.Mathlib.Omega.{arith}
 use lib.ListN.{get_or}
 use Rattle.field.specs.Open.{space}
 use Rattle.field.specs.Links.{passes}
-use Rattle.field.specs.Rowing.{shown_at, past, AllBehind}
+use Rattle.field.specs.Rowing.{shown_at}
 use Rattle.field.proofs.Climbing.{past-none, stays-behind, behind-next}
-use borrow.Author.Rules.{rules}
 use Rattle.rerecast.proofs.links.look_up.Goals as goal
 use Rattle.rerecast.proofs.links.look_up.Goals.{After-can_pass}
 

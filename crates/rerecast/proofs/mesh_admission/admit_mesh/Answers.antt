@@ -1,5 +1,4 @@
 -- `mesh_admission::admit_mesh` meets its contract: the tests of every call, then those of the mesh's numbers.
-use borrow.Author.Rules.{rules}
 use Rattle.field.specs.Slots.{slots}
 use Rattle.field.specs.Store.{Store, store}
 use Rattle.field.specs.Meshes.{Mesh, mesh}

@@ -1,13 +1,10 @@
 -- `mesh_admission::admit_numbers` meets its contract.
-use borrow.Author.Rules.{rules}
-use mathlib.Core.Path.{◌≡◌, refl, sym, ap, subst, ◌∙◌}
+use mathlib.Core.Path.{refl, sym, ap, ◌∙◌}
 use mathlib.Core.Logic.{inl, inr}
 use mathlib.Core.List.{[]}
-use Prim.Native.Nat.{◌/◌}
 use native.Mathlib.Omega.{arith}
-use lib.ListN.{length}
 use Rattle.replies.specs.Said.{Said}
-use Rattle.field.specs.Meshes.{Mesh, mesh, Named, vertices_say}
+use Rattle.field.specs.Meshes.{Mesh, mesh, Named}
 use Rattle.field.proofs.Basics.{says-true, says-false}
 use Rattle.rerecast.specs.MeshAdmission.{limits_say}
 use mathlib.Core.Path.{ap}
@@ -22,8 +19,7 @@ pub returns-then-not-all_named : goal.returns-then-not-all_named
 returns-then-not-all_named c = inl (says-false {P = Named (lent c.before.before.before.before.before)} c.all_named.result (ap not c.if-not-all_named.true) c.all_named.ensures, refl)
 
 pub returns-in-Inside : goal.returns-in-Inside
-returns-in-Inside c =
-    (
+returns-in-Inside c = (
   (refl, refl),
   (
     says-true {P = Named (lent c.before.before.before.before.before.before.before)} c.all_named.result (ap not c.if-not-all_named.false) c.all_named.ensures,

@@ -1,10 +1,9 @@
 -- `mesh_admission::all_named` meets its contract. The loop's invariant: each index passed names a vertex.
 use borrow.Author.Rules.{rules}
 use borrow.Author.Count.{below_more}
-use mathlib.Core.Path.{◌≡◌}
-use Prim.Native.Nat.{ℕ, ◌≤◌, ◌<◌, ◌-◌}
+use Prim.Native.Nat.{ℕ, ◌<◌}
 use native.Mathlib.Omega.{arith}
-use lib.ListN.{length, get_or}
+use lib.ListN.{get_or}
 use Rattle.rerecast.proofs.mesh_admission.all_named.Goals as goal
 
 pub loop-i-init : goal.loop-i-init

@@ -1,8 +1,6 @@
 -- `mesh_admission::mesh_shaped` meets its contract.
-use borrow.Author.Rules.{rules}
 use borrow.Author.Tests.{eqb-true, eqb-false}
-use mathlib.Core.Path.{◌≡◌}
-use Prim.Native.Nat.{ℕ, ◌*◌}
+use Prim.Native.Nat.{◌*◌}
 use lib.Dec.{eqb}
 use Rattle.field.proofs.Basics.{says_if}
 use Rattle.rerecast.proofs.mesh_admission.mesh_shaped.Goals as goal

@@ -1,16 +1,10 @@
 -- `mesh_admission::vertex_limits` meets its contract. The loop's invariant: what the numbers from i on say is what they all say.
-use borrow.Author.Rules.{rules}
-use borrow.Author.Tests.{not-true, not-false}
-use mathlib.Core.Path.{◌≡◌, refl, sym, ◌∙◌}
+use mathlib.Core.Path.{◌≡◌}
 use mathlib.Core.List.{map}
-use Prim.Native.Nat.{ℕ, ◌≤◌, ◌-◌}
-use native.Mathlib.Omega.{arith}
+use Prim.Native.Nat.{◌≤◌, ◌-◌}
 use lib.ListN.{length, drop}
 use Rattle.replies.specs.Said.{just}
 use Rattle.grid.specs.Grid.{coordinate, first_outside}
-use Rattle.field.proofs.Taking.{outside-next, outside-here, outside-none}
-use mathlib.Core.Path.{ap}
-use mathlib.Core.Bool.{not}
 use Rattle.rerecast.proofs.mesh_admission.vertex_limits.Given as goal
 
 abbrev pub invariant-loop-i : goal.invariant-loop-i

@@ -1,7 +1,6 @@
 -- `on_rim` meets its contract.
 use mathlib.Core.Logic.{inl, inr}
 use Rattle.field.proofs.Beside.{rim-says}
-use borrow.Author.Rules.{rules}
 use Rattle.rerecast.proofs.places.on_rim.Goals as goal
 
 pub returns-then-c-eq0 : goal.returns-then-c-eq0

@@ -10,7 +10,6 @@ use Rattle.field.specs.Filters.{ledges}
 use Rattle.rerecast.proofs.Admitted.{call-granted, call-refused, call-ready}
 use Rattle.rerecast.proofs.Filtered.{filtered-refused, filtered-done}
 use Rattle.grid.specs.Grid.{width, height}
-use borrow.Author.Rules.{rules}
 use Rattle.rerecast.proofs.pre_filter.filter_ledge_spans.Goals as goal
 use Rattle.rerecast.proofs.pre_filter.filter_ledge_spans.Goals.{In-Granted, Start}
 

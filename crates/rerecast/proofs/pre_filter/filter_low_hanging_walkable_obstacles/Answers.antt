@@ -9,7 +9,6 @@ use Rattle.field.specs.Store.{Store, store}
 use Rattle.field.specs.Filters.{low_obstacles}
 use Rattle.rerecast.proofs.Admitted.{call-granted, call-refused, call-ready}
 use Rattle.rerecast.proofs.Filtered.{filtered-refused, filtered-done}
-use borrow.Author.Rules.{rules}
 use Rattle.rerecast.proofs.pre_filter.filter_low_hanging_walkable_obstacles.Goals as goal
 use Rattle.rerecast.proofs.pre_filter.filter_low_hanging_walkable_obstacles.Goals.{In-Granted, Start}
 

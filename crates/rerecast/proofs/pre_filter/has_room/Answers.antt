@@ -1,5 +1,4 @@
 -- `has_room` meets its contract.
-use borrow.Author.Rules.{rules}
 use Rattle.rerecast.proofs.pre_filter.has_room.Goals as goal
 
 pub returns : goal.returns

@@ -1,6 +1,5 @@
 -- `lower` meets its contract.
 use borrow.Author.Tests.{lt-ltb, le-ltb}
-use borrow.Author.Rules.{rules}
 use Rattle.rerecast.proofs.pre_filter.lower.Goals as goal
 
 pub returns-then-wide : goal.returns-then-wide

@@ -3,10 +3,7 @@ use Prim.Native.Nat.{◌<◌, ◌≤◌}
 use lib.ListN.{length}
 use native.Mathlib.Omega.{arith}
 use Rattle.field.specs.Slots.{none, contents}
-use Rattle.field.specs.Inner.{slots_from}
-use Rattle.field.specs.Filters.{roomed}
-use Rattle.field.proofs.Upward.{roof-of, Upward, upward-start, upward-slot, upward-next, upward-less, upward-step, upward-end}
-use borrow.Author.Rules.{rules}
+use Rattle.field.proofs.Upward.{roof-of, upward-start, upward-slot, upward-next, upward-less, upward-step, upward-end}
 use Rattle.rerecast.proofs.pre_filter.lower_column.Goals as goal
 use Rattle.rerecast.proofs.pre_filter.lower_column.Goals.{In-loop-at}
 

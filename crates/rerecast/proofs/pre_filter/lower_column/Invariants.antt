@@ -1,12 +1,8 @@
 -- `lower_column` meets its contract: what is left of the column ends as the whole would.
-use Prim.Native.Nat.{◌<◌, ◌≤◌}
 use lib.ListN.{length}
-use native.Mathlib.Omega.{arith}
-use Rattle.field.specs.Slots.{none, contents}
 use Rattle.field.specs.Inner.{slots_from}
 use Rattle.field.specs.Filters.{roomed}
-use Rattle.field.proofs.Upward.{roof-of, Upward, upward-start, upward-slot, upward-next, upward-less, upward-step, upward-end}
-use borrow.Author.Rules.{rules}
+use Rattle.field.proofs.Upward.{Upward}
 use Rattle.rerecast.proofs.pre_filter.lower_column.Given as goal
 
 abbrev pub invariant-loop-at : goal.invariant-loop-at

@@ -1,14 +1,10 @@
 -- `lower_columns` meets its contract: after each column, what is left of them ends as the whole would.
-use Prim.Native.Nat.{ℕ, ◌≤◌, ◌-◌}
-use mathlib.Core.Path.{◌≡◌, refl, ◌∙◌}
-use lib.ListN.{length}
+use mathlib.Core.Path.{refl, ◌∙◌}
 use native.Mathlib.Numerals.{add-one}
 use native.Mathlib.Omega.{arith}
-use Rattle.field.specs.Slots.{slots}
-use Rattle.field.specs.Field.{Field, column_at, Holds}
-use Rattle.field.specs.Filters.{roomed}
+use Rattle.field.specs.Field.{column_at}
 use Rattle.field.proofs.Holding.{column-chain, column-distinct}
-use Rattle.field.proofs.Sweeping.{Sweep, sweep-begin, sweep-step, sweep-end}
+use Rattle.field.proofs.Sweeping.{sweep-begin, sweep-step, sweep-end}
 use Rattle.rerecast.proofs.pre_filter.lower_columns.Goals as goal
 
 pub loop-i-init : goal.loop-i-init
@@ -34,8 +30,7 @@ pub loop-i-smaller : goal.loop-i-smaller
 loop-i-smaller c = omega arith
 
 pub loop-i-preserved : goal.loop-i-preserved
-loop-i-preserved c =
-    (
+loop-i-preserved c = (
   omega arith,
   c.lower_column.auto.areas ∙ c.loop-i.invariant.1,
   λ free f H.

@@ -1,7 +1,6 @@
 -- `raise` meets its contract.
 use mathlib.Core.Path.{sym, ◌∙◌}
 use Rattle.field.proofs.Raising.{raised-walkable, raised-bare, raised-up, raised-far}
-use borrow.Author.Rules.{rules}
 use Rattle.rerecast.proofs.pre_filter.raise.Goals as goal
 
 pub returns-then-area-ne0 : goal.returns-then-area-ne0

@@ -1,15 +1,11 @@
 -- `raise_column` meets its contract: what is left of the column ends as the whole would, and the span below is at hand.
-use Prim.Native.Nat.{ℕ, ◌<◌, ◌≤◌}
+use Prim.Native.Nat.{◌<◌, ◌≤◌}
 use mathlib.Core.Path.{refl}
-use mathlib.Core.List.{List, []}
+use mathlib.Core.List.{[]}
 use lib.ListN.{length, get_or}
 use native.Mathlib.Omega.{arith}
 use Rattle.field.specs.Slots.{none}
-use Rattle.field.specs.Inner.{slots_from}
-use Rattle.field.specs.FilterCode.{Beneath}
-use Rattle.field.specs.Filters.{raised}
-use Rattle.field.proofs.Upward.{Upward, upward-start, upward-slot, upward-less, upward-step, upward-end}
-use borrow.Author.Rules.{rules}
+use Rattle.field.proofs.Upward.{upward-start, upward-slot, upward-less, upward-step, upward-end}
 use Rattle.rerecast.proofs.pre_filter.raise_column.Goals as goal
 use Rattle.rerecast.proofs.pre_filter.raise_column.Goals.{In-loop-at}
 

@@ -1,15 +1,12 @@
 -- `raise_columns` meets its contract: after each column, what is left of them ends as the whole would.
 use Prim.Native.Nat.{ℕ, ◌≤◌, ◌-◌}
-use mathlib.Core.Path.{◌≡◌, refl, ◌∙◌}
+use mathlib.Core.Path.{◌≡◌}
 use mathlib.Core.List.{List}
 use lib.ListN.{length}
-use native.Mathlib.Numerals.{add-one}
-use native.Mathlib.Omega.{arith}
 use Rattle.field.specs.Slots.{slots}
-use Rattle.field.specs.Field.{Field, column_at, Holds}
+use Rattle.field.specs.Field.{Field, Holds}
 use Rattle.field.specs.Filters.{raised}
-use Rattle.field.proofs.Holding.{column-chain, column-distinct}
-use Rattle.field.proofs.Sweeping.{Sweep, sweep-begin, sweep-step, sweep-end}
+use Rattle.field.proofs.Sweeping.{Sweep}
 use Rattle.rerecast.proofs.pre_filter.raise_columns.Given as goal
 
 abbrev pub invariant-loop-i : goal.invariant-loop-i

@@ -1,7 +1,6 @@
 -- `roof_of` meets its contract.
 use native.Mathlib.Omega.{arith}
 use borrow.Author.Tests.{eq-eqb, ne_eqb}
-use borrow.Author.Rules.{rules}
 use Rattle.rerecast.proofs.pre_filter.roof_of.Goals as goal
 
 pub returns-then-s-eq-NONE : goal.returns-then-s-eq-NONE

@@ -1,5 +1,4 @@
 -- `within` meets its contract.
-use borrow.Author.Rules.{rules}
 use Rattle.rerecast.proofs.pre_filter.within.Goals as goal
 
 pub returns : goal.returns

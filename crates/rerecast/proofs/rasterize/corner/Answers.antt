@@ -1,5 +1,4 @@
 -- `rasterize::corner` meets its contract.
-use borrow.Author.Rules.{rules}
 use Rattle.rerecast.proofs.rasterize.corner.Goals as goal
 
 pub returns : goal.returns

@@ -1,8 +1,7 @@
 -- `rasterize::halted` meets its contract.
-use borrow.Author.Rules.{rules}
 use mathlib.Core.Path.{◌≡◌, sym, ap}
 use mathlib.Core.List.{[], ◌∷◌}
-use Rattle.replies.specs.Said.{Said, whole, say}
+use Rattle.replies.specs.Said.{whole, say}
 use Rattle.rerecast.specs.Rasterize.{number_of}
 use Rattle.rerecast.specs.declared.turns.Stop.{Stop}
 use Rattle.rerecast.proofs.rasterize.halted.Goals as goal

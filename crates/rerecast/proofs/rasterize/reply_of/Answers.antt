@@ -1,5 +1,4 @@
 -- `rasterize::reply_of` meets its contract.
-use borrow.Author.Rules.{rules}
 use mathlib.Core.Path.{sym, ap, ◌∙◌}
 use Rattle.rerecast.specs.Rasterize.{ending_says}
 use Rattle.rerecast.proofs.rasterize.reply_of.Goals as goal

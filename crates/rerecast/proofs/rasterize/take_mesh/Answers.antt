@@ -1,9 +1,8 @@
 -- `rasterize::take_mesh` meets its contract: the triangles work on the heads of the grid's columns, and the heads past them stay.
-use borrow.Author.Rules.{rules}
 use mathlib.Core.Path.{sym, ◌∙◌}
 use mathlib.Core.List.{[], append-nil}
 use native.Mathlib.Omega.{arith}
-use lib.ListN.{length, take}
+use lib.ListN.{take}
 use lib.Seq.{length-take-le}
 use Rattle.clip.specs.Work.{frame_of}
 use Rattle.field.specs.Slots.{Slots, slots}

@@ -1,10 +1,9 @@
 -- `rasterize::triangle` meets its contract.
-use borrow.Author.Rules.{rules}
 use borrow.Author.Tests.{not-true, not-false}
-use mathlib.Core.Path.{◌≡◌, refl, sym, ap, ◌∙◌}
+use mathlib.Core.Path.{◌≡◌, sym, ap, ◌∙◌}
 use mathlib.Core.Bool.{Bool, true, false}
-use mathlib.Core.List.{List, [], ◌∷◌, map}
-use Prim.Native.Nat.{ℕ, ◌+◌, ◌-◌, ◌<◌, ◌≤◌, min}
+use mathlib.Core.List.{List, [], ◌∷◌}
+use Prim.Native.Nat.{◌+◌, ◌-◌, ◌≤◌}
 use native.Mathlib.Omega.{arith}
 use lib.IntN.{ℤ}
 use lib.Ieee.{Float}
@@ -13,7 +12,7 @@ use mir.Val.{to_z, of_z}
 use mir.ValLaws.{to_z-of_z}
 use Rattle.grid.specs.declared.Corner.{Corner}
 use Rattle.clip.specs.declared.cut.Axis.TheVariants.{Z}
-use Rattle.clip.specs.Arrays.{Arrays, arrays, numbers_at, polygon_at}
+use Rattle.clip.specs.Arrays.{Arrays, arrays, polygon_at}
 use Rattle.clip.specs.Slices.{least_of, greatest_of, cell_of, held_first, held_last}
 use Rattle.clip.specs.Work.{first_cell, last_cell, edge_at, row_events, meets_of}
 use Rattle.clip.proofs.Holds.{held-le}
@@ -51,7 +50,7 @@ overflow_sub-f-2 c = omega (arith, c.requires.ready.sides.some-high)
 
 -- the last row is one of the grid's
 last-held : (c : After-held_last-last) → c.held_last-last.result ≡ held_last (c.args.job.frame.height - 1) (last_cell c.args.job.frame Z (corners c.before.before.before.before.before.before.before.before.before.before.before.before.before.before.before.before.before.before.before.before.before.before.before.before.before))
-last-held c = 
+last-held c =
     let corners : List Corner = c.args.a ∷ c.args.b ∷ c.args.c ∷ [] in
     let last-is : to_z w32 (of_z w32 c.cell_at-z1.result) ≡ last_cell c.args.job.frame Z (corners) = let f = c.args.job.frame in
     to_z-of_z w32 c.cell_at-z1.result (record { sfits = c.cell_at-z1.type_inv }) ∙ c.cell_at-z1.ensures

@@ -1,11 +1,9 @@
 -- `rasterize::triangle_at` meets its contract.
-use borrow.Author.Rules.{rules}
-use mathlib.Core.Path.{◌≡◌, refl, sym, ap, ◌∙◌}
-use mathlib.Core.List.{List, [], ◌∷◌}
-use Prim.Native.Nat.{ℕ, ◌+◌, ◌*◌, ◌<◌, ◌≤◌}
+use mathlib.Core.Path.{◌≡◌}
+use mathlib.Core.List.{[], ◌∷◌}
+use Prim.Native.Nat.{◌+◌, ◌*◌, ◌<◌}
 use native.Mathlib.Omega.{arith}
 use lib.ListN.{length}
-use Rattle.grid.specs.declared.Corner.{Corner}
 use Rattle.clip.specs.Work.{triangle_events}
 use Rattle.field.specs.Meshes.{Mesh, mesh, corners_of}
 use Rattle.field.proofs.Carrying.{remains-of}

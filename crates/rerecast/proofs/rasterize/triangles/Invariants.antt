@@ -1,20 +1,12 @@
 -- `rasterize::triangles` meets its contract. The loop's invariant: the triangles from t on come on the store as it is now to what all of them come to.
-use borrow.Author.Rules.{rules}
-use mathlib.Core.Path.{◌≡◌, refl, sym, ap, ◌∙◌, subst}
-use mathlib.Core.List.{List, [], ◌∷◌, ◌++◌}
-use Prim.Native.Nat.{ℕ, ◌+◌, ◌-◌, ◌<◌, ◌≤◌}
-use native.Mathlib.Omega.{arith}
+use mathlib.Core.List.{List, ◌++◌}
+use Prim.Native.Nat.{ℕ, ◌-◌}
 use lib.ListN.{length}
-use Rattle.clip.specs.Work.{stop}
 use Rattle.field.specs.Slots.{slots}
 use Rattle.field.specs.Field.{Field, Holds}
-use Rattle.field.specs.Meshes.{Mesh, mesh, work_of, rasterized}
+use Rattle.field.specs.Meshes.{mesh, work_of, rasterized}
 use Rattle.field.specs.Working.{MeshRemains}
-use Rattle.field.proofs.Meshing.{mesh-begins, mesh-on, mesh-halts-says, mesh-halts-holds, mesh-ends-says, mesh-ends-holds}
-use Rattle.rerecast.specs.Rasterize.{number_of, Worked}
-use Rattle.rerecast.specs.declared.turns.Step.{Step}
-use Rattle.rerecast.specs.declared.turns.Step.TheVariants.{Went, Stopped}
-use Rattle.rerecast.proofs.Rasterizing.{Alike, again}
+use Rattle.rerecast.proofs.Rasterizing.{Alike}
 use Rattle.rerecast.proofs.rasterize.triangles.Given as goal
 
 abbrev pub invariant-loop-t : goal.invariant-loop-t

@@ -1,7 +1,5 @@
 -- `rasterize::column` meets its contract.
-use borrow.Author.Rules.{rules}
 use mathlib.Core.Path.{◌≡◌, sym, ap, subst}
-use Prim.Native.Nat.{ℕ, ◌<◌, ◌≤◌}
 use native.Mathlib.Omega.{arith}
 use Rattle.clip.specs.declared.cell.Piece.{Piece}
 use Rattle.clip.specs.Work.{cell_events}

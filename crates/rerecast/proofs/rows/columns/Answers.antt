@@ -1,13 +1,11 @@
 -- `rasterize::columns` meets its contract. The loop's invariant: the columns from k on, of what is left of the part, come on the store as it is now to what all of
 -- them come to. No more insertions were made than columns passed.
-use borrow.Author.Rules.{rules}
-use mathlib.Core.Path.{◌≡◌, refl, sym, ap, ◌∙◌}
+use mathlib.Core.Path.{◌≡◌, refl, ap, ◌∙◌}
 use mathlib.Core.Bool.{not}
-use mathlib.Core.List.{List, [], ◌∷◌, ◌++◌, map}
-use Prim.Native.Nat.{ℕ, suc, ◌+◌, ◌-◌, ◌<◌, ◌≤◌}
+use mathlib.Core.List.{List, ◌++◌}
+use Prim.Native.Nat.{ℕ, ◌+◌}
 use native.Mathlib.Omega.{arith}
 use lib.IntN.{ℤ}
-use lib.ListN.{length}
 use lib.Ieee.{Float}
 use mir.Syntax.{w16}
 use mir.ValLaws.{to_z-of_z}
@@ -21,13 +19,12 @@ use Rattle.clip.specs.Work.{Event, and_then, edge_at, cell_events}
 use Rattle.clip.proofs.Flat.{cell-blind, xs-long, ys-long, kept-is}
 use Rattle.field.specs.Slots.{slots}
 use Rattle.field.specs.Field.{Field, Holds}
-use Rattle.field.specs.Carrying.{carry}
-use Rattle.field.specs.Working.{Remains, numbered, turn_events, turns_to}
+use Rattle.field.specs.Working.{numbered, turn_events, turns_to}
 use Rattle.field.proofs.Carrying.{remains-is, remains-as}
 use Rattle.field.proofs.Slicing.{cells-turn, turns-end, turn-length}
 use Rattle.field.proofs.Cells.{cell-one}
-use Rattle.rerecast.specs.Rasterize.{made_by, Carries, BothPlaces}
-use Rattle.rerecast.proofs.Rasterizing.{step-most, went-fits, turn-went, turn_stopped, Alike, again}
+use Rattle.rerecast.specs.Rasterize.{made_by, Carries}
+use Rattle.rerecast.proofs.Rasterizing.{step-most, went-fits, turn-went, turn_stopped, again}
 use Rattle.rerecast.proofs.rows.columns.Goals as goal
 use Rattle.rerecast.proofs.rows.columns.Goals.{After-column-step, After-cut_cell-d}
 

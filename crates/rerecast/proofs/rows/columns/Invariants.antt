@@ -1,33 +1,17 @@
 -- `rasterize::columns` meets its contract. The loop's invariant: the columns from k on, of what is left of the part, come on the store as it is now to what all of
 -- them come to. No more insertions were made than columns passed.
-use borrow.Author.Rules.{rules}
-use mathlib.Core.Path.{◌≡◌, refl, sym, ap, ◌∙◌}
-use mathlib.Core.Bool.{not}
-use mathlib.Core.List.{List, [], ◌∷◌, ◌++◌, map}
-use Prim.Native.Nat.{ℕ, suc, ◌+◌, ◌-◌, ◌<◌, ◌≤◌}
-use native.Mathlib.Omega.{arith}
-use lib.IntN.{ℤ}
-use lib.ListN.{length}
-use lib.Ieee.{Float}
-use mir.Syntax.{w16}
-use mir.ValLaws.{to_z-of_z}
-use Rattle.grid.specs.declared.Corner.{Corner}
+use mathlib.Core.List.{List, ◌++◌}
+use Prim.Native.Nat.{ℕ, suc, ◌+◌, ◌-◌, ◌≤◌}
 use Rattle.clip.specs.declared.cut.Axis.TheVariants.{X}
-use Rattle.clip.specs.Cut.{first_of, second_of}
 use Rattle.clip.specs.Arrays.{half}
-use Rattle.clip.specs.Cell.{flat_at, Celled, celled, cell_cut_of}
-use Rattle.clip.specs.Slices.{edge_of}
-use Rattle.clip.specs.Work.{Event, and_then, edge_at, cell_events}
-use Rattle.clip.proofs.Flat.{cell-blind, xs-long, ys-long, kept-is}
+use Rattle.clip.specs.Cell.{flat_at}
+use Rattle.clip.specs.Work.{edge_at, cell_events}
 use Rattle.field.specs.Slots.{slots}
 use Rattle.field.specs.Field.{Field, Holds}
 use Rattle.field.specs.Carrying.{carry}
-use Rattle.field.specs.Working.{Remains, numbered, turn_events, turns_to}
-use Rattle.field.proofs.Carrying.{remains-is, remains-as}
-use Rattle.field.proofs.Slicing.{cells-turn, turns-end, turn-length}
-use Rattle.field.proofs.Cells.{cell-one}
-use Rattle.rerecast.specs.Rasterize.{made_by, Carries, BothPlaces}
-use Rattle.rerecast.proofs.Rasterizing.{step-most, went-fits, turn-went, turn_stopped, Alike, again}
+use Rattle.field.specs.Working.{Remains, turns_to}
+use Rattle.rerecast.specs.Rasterize.{BothPlaces}
+use Rattle.rerecast.proofs.Rasterizing.{Alike}
 use Rattle.rerecast.proofs.rows.columns.Given as goal
 
 abbrev pub invariant-loop-k : goal.invariant-loop-k

@@ -1,16 +1,13 @@
 -- `rasterize::place` meets its contract.
-use borrow.Author.Rules.{rules}
-use mathlib.Core.Path.{◌≡◌, sym, ap, ◌∙◌}
+use mathlib.Core.Path.{◌≡◌, ap, ◌∙◌}
 use mathlib.Core.List.{List, [], ◌∷◌, map}
-use Prim.Native.Nat.{ℕ, ◌<◌, ◌≤◌}
 use native.Mathlib.Omega.{arith}
-use lib.Ieee.{Float}
 use Rattle.grid.specs.declared.Corner.{Corner}
 use Rattle.clip.specs.declared.heights.Snap.{Snap}
 use Rattle.clip.specs.Cut.{y_of}
 use Rattle.clip.specs.Slices.{least_of, greatest_of}
 use Rattle.clip.specs.Snap.{max_height}
-use Rattle.clip.specs.Work.{Event, insert as offer, stop, cell_events}
+use Rattle.clip.specs.Work.{insert as offer, stop, cell_events}
 use Rattle.clip.proofs.Snaps.{on_snap, span-heights}
 use Rattle.field.proofs.Carrying.{remains-is, remains-of}
 use Rattle.field.proofs.Cells.{cell-is}

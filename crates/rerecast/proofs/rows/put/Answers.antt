@@ -1,9 +1,7 @@
 -- `rasterize::put` meets its contract.
-use borrow.Author.Rules.{rules}
-use mathlib.Core.Path.{◌≡◌}
-use Prim.Native.Nat.{ℕ, ◌+◌, ◌*◌, ◌<◌}
+use Prim.Native.Nat.{◌+◌, ◌*◌, ◌<◌}
 use native.Mathlib.Omega.{arith}
-use lib.ListN.{length, length-append}
+use lib.ListN.{length-append}
 use Rattle.field.proofs.Refusal.{refused-field}
 use Rattle.grid.proofs.Places.{cell_below}
 use Rattle.rerecast.proofs.Rasterizing.{landed-goes, refused-stops}

@@ -1,9 +1,8 @@
 -- `rasterize::row` meets its contract.
-use borrow.Author.Rules.{rules}
-use mathlib.Core.Path.{◌≡◌, refl, sym, ap, ◌∙◌}
+use mathlib.Core.Path.{◌≡◌, sym, ap, ◌∙◌}
 use mathlib.Core.Bool.{Bool, true, false, ◌||◌}
 use mathlib.Core.List.{List, map}
-use Prim.Native.Nat.{ℕ, ◌+◌, ◌-◌, ◌<◌, ◌≤◌, min}
+use Prim.Native.Nat.{ℕ, ◌+◌, ◌-◌, ◌≤◌, min}
 use native.Mathlib.Omega.{arith}
 use lib.IntN.{ℤ, pos}
 use lib.Signed.{lt_z, le_z}
@@ -61,7 +60,7 @@ overflow_sub-f-2 c = omega (arith, c.requires.ready.0.sides.some-wide)
 
 -- the last column is one of the grid's
 last-held : (c : After-held_last-last) → c.held_last-last.result ≡ held_last (c.args.job.frame.width - 1) (last_cell c.args.job.frame X (flat_at c.args.xs.now c.args.ys.now 0 c.args.n))
-last-held c = 
+last-held c =
     let part : List Corner = flat_at c.args.xs.now c.args.ys.now 0 c.args.n in
     let xs-are : numbers_at c.args.xs.now 0 (min c.args.n 28) ≡ map (λ v. v.x) (part) = ap (λ (n : ℕ). numbers_at c.args.xs.now 0 n) (all_of c.args.n (omega (arith, c.requires.ready.2))) ∙ sym (xs-at _ _ 0 c.args.n) in
     let last-is : to_z w32 (of_z w32 c.cell_at-x1.result) ≡ last_cell c.args.job.frame X (part) = let k = c.cell_at-x1 in
@@ -72,7 +71,6 @@ last-held c =
 
 inside : (c : After-held_last-last) → c.held_last-last.result + 1 ≤ c.args.job.frame.width
 inside c =
-    
     let part : List Corner = flat_at c.args.xs.now c.args.ys.now 0 c.args.n in
     let f = c.args.job.frame in
     omega (arith, last-held c, held-le 0 (f.width - 1) (last_cell f X (part)) (omega arith), c.requires.ready.0.sides.some-wide)

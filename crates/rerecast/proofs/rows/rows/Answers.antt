@@ -1,10 +1,9 @@
 -- `rasterize::rows` meets its contract. The loop's invariant: the rows from k on, of what is left of the triangle, come on the store as it is now to what all of them
 -- come to. No more insertions were made than the rows passed have cells.
-use borrow.Author.Rules.{rules}
-use mathlib.Core.Path.{◌≡◌, refl, sym, ap, ◌∙◌}
+use mathlib.Core.Path.{◌≡◌, refl, ap, ◌∙◌}
 use mathlib.Core.Bool.{not}
-use mathlib.Core.List.{List, [], ◌∷◌, ◌++◌, map}
-use Prim.Native.Nat.{ℕ, suc, ◌+◌, ◌*◌, ◌-◌, ◌<◌, ◌≤◌}
+use mathlib.Core.List.{List, ◌++◌}
+use Prim.Native.Nat.{ℕ, ◌+◌, ◌<◌, ◌≤◌}
 use native.Mathlib.Omega.{arith}
 use lib.IntN.{ℤ}
 use lib.ListN.{length}
@@ -14,21 +13,19 @@ use mir.ValLaws.{to_z-of_z}
 use Rattle.grid.specs.declared.Corner.{Corner}
 use Rattle.clip.specs.declared.frame.Frame.{Frame}
 use Rattle.clip.specs.declared.cut.Axis.TheVariants.{Z}
-use Rattle.clip.specs.Arrays.{Arrays, arrays, polygon_at, half, Divided, divided, divide_of}
+use Rattle.clip.specs.Arrays.{arrays, polygon_at, half, Divided, divided, divide_of}
 use Rattle.clip.specs.Slices.{edge_of}
 use Rattle.clip.specs.Work.{Event, and_then, edge_at, row_events}
-use Rattle.clip.proofs.Places.{Long}
 use Rattle.clip.proofs.Cuts.{polygon-long, part-long}
 use Rattle.clip.proofs.Flat.{row-blind}
 use Rattle.field.specs.Slots.{slots}
 use Rattle.field.specs.Field.{Field, Holds}
-use Rattle.field.specs.Carrying.{carry}
-use Rattle.field.specs.Working.{Remains, numbered, turn_events, turns_to}
+use Rattle.field.specs.Working.{numbered, turn_events, turns_to}
 use Rattle.field.proofs.Carrying.{remains-is, remains-of, remains-as}
 use Rattle.field.proofs.Slicing.{turns-turn, turns-end, turn-flat, turn-length}
 use Rattle.field.proofs.Cells.{row-length}
 use Rattle.rerecast.specs.Rasterize.{made_by, Carries}
-use Rattle.rerecast.proofs.Rasterizing.{step-most, went-fits, turn-went, turn_stopped, Alike, again}
+use Rattle.rerecast.proofs.Rasterizing.{step-most, went-fits, turn-went, turn_stopped, again}
 use Rattle.rerecast.proofs.rows.rows.Goals as goal
 use Rattle.rerecast.proofs.rows.rows.Goals.{After-divide-d, After-row_at-step}
 

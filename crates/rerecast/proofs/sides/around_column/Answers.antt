@@ -1,7 +1,7 @@
 -- Each side is the cell of the column beside, as the rule names it.
 use Prim.Native.Nat.{◌<◌, ◌%◌, ◌/◌}
 use native.Mathlib.Omega.{arith}
-use Rattle.field.proofs.Beside.{some-width, place}
+use Rattle.field.proofs.Beside.{place}
 use Rattle.rerecast.proofs.Compacting.{side-is}
 use Rattle.rerecast.proofs.sides.around_column.Goals as goal
 use Rattle.rerecast.proofs.sides.around_column.Goals.{Start}

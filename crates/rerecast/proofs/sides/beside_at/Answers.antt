@@ -2,7 +2,6 @@
 use mathlib.Core.Path.{◌≡◌, refl}
 use native.Mathlib.Omega.{arith}
 use borrow.Author.Tests.{lt-ltb, le-ltb}
-use borrow.Author.Rules.{rules}
 use Rattle.rerecast.proofs.sides.beside_at.Goals as goal
 use Rattle.rerecast.proofs.sides.beside_at.Goals.{Else-dir-eq2}
 

@@ -1,7 +1,6 @@
 -- The entries of a cell that is there, and zeros where there is none.
 use native.Mathlib.Omega.{arith}
 use borrow.Author.Tests.{eq-eqb, ne_eqb}
-use borrow.Author.Rules.{rules}
 use Rattle.rerecast.proofs.sides.side_at.Goals as goal
 
 pub returns-then-k : goal.returns-then-k

@@ -1,8 +1,7 @@
 -- `chain_slots` meets its contract. The loop's invariant: each of the first slots has the one after it next.
-use Prim.Native.Nat.{◌-◌}
 use mathlib.Core.Path.{refl}
 use native.Mathlib.Omega.{arith}
-use Rattle.field.proofs.Emptying.{Numbering, numbering-turn, numbering-end}
+use Rattle.field.proofs.Emptying.{numbering-turn, numbering-end}
 use Rattle.rerecast.proofs.slices.chain_slots.Goals as goal
 
 pub loop-i-init : goal.loop-i-init

@@ -2,7 +2,6 @@
 use mathlib.Core.Path.{◌≡◌, refl, sym, ap, ◌∙◌}
 use lib.ListN.{get_or, set}
 use lib.Seq.{set-get_or}
-use borrow.Author.Rules.{rules}
 use Rattle.rerecast.proofs.slices.change_byte.Goals as goal
 
 pub bounds-s-i : goal.bounds-s-i

@@ -1,8 +1,6 @@
 -- `clear_bytes` meets its contract. The loop's invariant: the first bytes are set, and the others as they were.
-use Prim.Native.Nat.{◌-◌}
 use native.Mathlib.Omega.{arith}
-use lib.ListN.{length}
-use Rattle.field.proofs.Emptying.{Filling, filling-start, filling-turn, filling-end}
+use Rattle.field.proofs.Emptying.{filling-start, filling-turn, filling-end}
 use Rattle.rerecast.proofs.slices.clear_bytes.Goals as goal
 
 pub loop-i-init : goal.loop-i-init

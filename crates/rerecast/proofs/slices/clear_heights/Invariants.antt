@@ -1,8 +1,7 @@
 -- `clear_heights` meets its contract. The loop's invariant: the first heights are set, and the others as they were.
 use Prim.Native.Nat.{◌-◌}
-use native.Mathlib.Omega.{arith}
 use lib.ListN.{length}
-use Rattle.field.proofs.Emptying.{Filling, filling-start, filling-turn, filling-end}
+use Rattle.field.proofs.Emptying.{Filling}
 use Rattle.rerecast.proofs.slices.clear_heights.Given as goal
 
 abbrev pub invariant-loop-i : goal.invariant-loop-i

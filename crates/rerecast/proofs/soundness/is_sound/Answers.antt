@@ -1,7 +1,6 @@
 -- `is_sound` meets its contract: it clears the marks before and after the test.
 use Prim.Native.Nat.{ℕ}
 use mathlib.Core.Path.{ap, ◌∙◌}
-use borrow.Author.Rules.{rules}
 use lib.ListN.{replicate}
 use Rattle.rerecast.proofs.soundness.is_sound.Goals as goal
 

@@ -1,11 +1,9 @@
 -- `mark_column` meets its contract. The loop's invariant: what is left of the chain is one of unmarked slots whose spans ascend exactly if the whole is.
 -- The measure is how many slots are not marked.
 use mathlib.Core.Path.{◌≡◌}
-use native.Mathlib.Omega.{arith}
-use borrow.Author.Rules.{rules}
 use lib.ListN.{length}
 use Rattle.field.specs.Marks.{unmarked, Climbs}
-use Rattle.field.proofs.Marking.{Marking, marking-start, marking-less, marking-room, marking-out, marking-twice, marking-low, marking-thin, marking-climb, marking-end}
+use Rattle.field.proofs.Marking.{Marking}
 use Rattle.rerecast.proofs.soundness.mark_column.Given as goal
 
 abbrev pub invariant-loop-at : goal.invariant-loop-at

@@ -1,10 +1,8 @@
 -- `mark_columns` meets its contract. The loop's invariant: the first columns are marked.
-use Prim.Native.Nat.{◌-◌}
-use mathlib.Core.Path.{◌≡◌, refl, ◌∙◌}
-use borrow.Author.Rules.{rules}
-use lib.ListN.{length, get_or}
+use mathlib.Core.Path.{refl, ◌∙◌}
+use lib.ListN.{get_or}
 use Rattle.field.specs.Marks.{Climbs}
-use Rattle.field.proofs.Surveying.{Surveyed, surveyed-start, surveyed-flags, surveyed-broken, surveyed-step, surveyed-end}
+use Rattle.field.proofs.Surveying.{surveyed-start, surveyed-flags, surveyed-broken, surveyed-step, surveyed-end}
 use Rattle.rerecast.proofs.Told.{marked, broken}
 use Rattle.rerecast.proofs.soundness.mark_columns.Goals as goal
 

@@ -2,9 +2,8 @@
 -- slots are not marked.
 use mathlib.Core.Path.{◌∙◌}
 use native.Mathlib.Omega.{arith}
-use borrow.Author.Rules.{rules}
-use Rattle.field.specs.Marks.{unmarked, Any}
-use Rattle.field.proofs.Marking.{Marking, marking-start, run_out, run-twice, run-sizes, run_room, run_step, run-less, marking-end}
+use Rattle.field.specs.Marks.{Any}
+use Rattle.field.proofs.Marking.{marking-start, run_out, run-twice, run-sizes, run_room, run_step, run-less, marking-end}
 use Rattle.rerecast.proofs.soundness.mark_free.Goals as goal
 
 pub loop-at-init : goal.loop-at-init

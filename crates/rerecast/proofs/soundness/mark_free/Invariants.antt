@@ -1,10 +1,7 @@
 -- `mark_free` meets its contract. The loop's invariant: what is left of the chain is one of unmarked slots exactly if the whole is. The measure is how many
 -- slots are not marked.
-use mathlib.Core.Path.{◌∙◌}
-use native.Mathlib.Omega.{arith}
-use borrow.Author.Rules.{rules}
 use Rattle.field.specs.Marks.{unmarked, Any}
-use Rattle.field.proofs.Marking.{Marking, marking-start, run_out, run-twice, run-sizes, run_room, run_step, run-less, marking-end}
+use Rattle.field.proofs.Marking.{Marking}
 use Rattle.rerecast.proofs.soundness.mark_free.Given as goal
 
 abbrev pub invariant-loop-at : goal.invariant-loop-at

@@ -1,8 +1,5 @@
 -- `mark_run` meets its contract. The loop's invariant: the slots before `i` are marked in turn. The measure is what is left of the slots.
-use Prim.Native.Nat.{◌-◌}
 use native.Mathlib.Omega.{arith}
-use borrow.Author.Rules.{rules}
-use lib.ListN.{length}
 use Rattle.field.specs.Marks.{InTurn}
 use Rattle.field.proofs.Marking.{turn-size}
 use Rattle.rerecast.proofs.soundness.mark_run.Goals as goal

@@ -1,6 +1,5 @@
 -- `test_marked` meets its contract: a broken chain rules a sound field out, and else the number of marked slots decides.
 use mathlib.Core.Path.{ap, ◌∙◌}
-use borrow.Author.Rules.{rules}
 use borrow.Author.Tests.{eqb-true, eqb-false}
 use lib.ListN.{length, length-replicate}
 use Rattle.field.specs.Marks.{Any}

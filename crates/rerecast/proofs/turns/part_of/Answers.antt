@@ -1,5 +1,5 @@
 -- `rasterize::part_of` meets its contract.
-use Prim.Native.Nat.{ℕ, ◌<◌}
+use Prim.Native.Nat.{◌<◌}
 use native.Mathlib.Omega.{arith}
 use Rattle.field.proofs.Slicing.{turn-first, turn-second, turn-before, turn-few, turn-part}
 use Rattle.rerecast.proofs.turns.part_of.Goals as goal
