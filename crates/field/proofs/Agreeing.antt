@@ -1,7 +1,7 @@
 -- The definitions agree with the rules' worked insertions P1 to P6 and filters P10 and P11: one table, one computed test of an entry, and one law that turns
 -- the test into what the entry states.
 use mathlib.Core.Path.{◌≡◌, refl, sym, ap₂, subst}
-use mathlib.Core.Logic.{◌⊎◌, inl, inr}
+use mathlib.Core.Logic.{inl, inr}
 use mathlib.Core.Bool.{Bool, true, false, cond, ◌&&◌}
 use mathlib.Core.List.{List, [], ◌∷◌, map}
 use Prim.Native.Nat.{ℕ}

@@ -2,15 +2,13 @@
 use mathlib.Core.Path.{◌≡◌, refl, sym, ap, ◌∙◌}
 use mathlib.Core.Bool.{Bool, true, false, cond}
 use mathlib.Core.List.{List, [], ◌∷◌}
-use Prim.Native.Nat.{ℕ, zero, suc, ◌+◌, ◌-◌, ◌*◌, ◌≤◌, ◌<◌}
-use native.Mathlib.Numerals.{add-one}
+use Prim.Native.Nat.{ℕ, suc, ◌+◌, ◌*◌, ◌≤◌}
 use native.Mathlib.Omega.{arith}
 use lib.ListN.{length}
 use Rattle.clip.specs.Work.{Event, insert as offer, stop, and_then}
-use Rattle.field.specs.declared.Span.{Span}
 use Rattle.field.specs.Slots.{Slots}
 use Rattle.field.specs.Field.{Field, Holds, Inserted, insert}
-use Rattle.field.specs.Carrying.{Carried, went, stopped, Meshed, placed, halted, Work, carry, onward, carry_mesh}
+use Rattle.field.specs.Carrying.{Carried, went, stopped, carry}
 use Rattle.field.specs.Working.{Remains}
 
 abbrev pub made_in : Carried → ℕ

@@ -2,25 +2,23 @@
 use mathlib.Core.Path.{◌≡◌, sym}
 use mathlib.Core.Bool.{Bool, true, false, ◌||◌, cond}
 use mathlib.Core.List.{List, [], ◌∷◌, map}
-use Prim.Native.Nat.{ℕ, ◌+◌, ◌-◌, ◌*◌, ◌≤◌, ◌<◌, min}
+use Prim.Native.Nat.{ℕ, ◌+◌, ◌-◌, ◌≤◌, ◌<◌, min}
 use native.Mathlib.Numerals.{add-one}
 use native.Mathlib.Omega.{arith}
 use lib.Dec.{eqb}
-use lib.IntN.{ℤ, pos, negsuc}
+use lib.IntN.{pos}
 use lib.Signed.{lt_z, le_z}
 use lib.ListN.{length, get_or}
 use lib.Ieee.{Float, nan}
 use Rattle.grid.specs.declared.Corner.{Corner}
-use Rattle.clip.specs.declared.cut.Axis.{Axis}
 use Rattle.clip.specs.declared.cut.Axis.TheVariants.{X, Z}
 use Rattle.clip.specs.declared.frame.Frame.{Frame}
 use Rattle.clip.specs.declared.heights.Snap.{Snap}
-use Rattle.clip.specs.Cut.{x_of, y_of, z_of}
-use Rattle.clip.specs.Arrays.{Arrays, arrays, numbers_at, polygon_at}
-use Rattle.clip.specs.Slices.{least_of, greatest_of, cell_of, held_to, held_first, held_last}
+use Rattle.clip.specs.Cut.{y_of}
+use Rattle.clip.specs.Arrays.{arrays, numbers_at, polygon_at}
+use Rattle.clip.specs.Slices.{least_of, greatest_of, held_first, held_last}
 use Rattle.clip.specs.Snap.{max_height, outside, floor_of, ceiling_of, snapped, snap_says, said_of}
-use Rattle.clip.specs.Work.{Event, insert as offer, stop, slices, within, from_to, cells, start, first_cell, last_cell, edge_at, cell_events, row_events, meets_of, triangle_events}
-use Rattle.clip.proofs.Places.{xs-of, zs-of}
+use Rattle.clip.specs.Work.{insert as offer, stop, from_to, first_cell, last_cell, edge_at, cell_events, row_events, meets_of, triangle_events}
 use Rattle.clip.proofs.Holds.{held-le}
 use Rattle.clip.proofs.Snaps.{on_snap, snap-tells}
 use Rattle.field.specs.Working.{numbered, turns_to}

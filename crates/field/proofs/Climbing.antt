@@ -1,11 +1,11 @@
 -- Up a column that ascends: its open spaces start one above the other, what is past stays past above it, and what was not reached and is not past stays behind.
 use mathlib.Core.Path.{◌≡◌, subst}
-use mathlib.Core.Bool.{Bool, true, false, ◌&&◌, ◌||◌}
+use mathlib.Core.Bool.{true, false, ◌&&◌}
 use mathlib.Core.List.{List, [], ◌∷◌, map}
 use Prim.Native.Nat.{ℕ, zero, suc, ◌+◌, ◌<◌, ◌≤◌, min, max}
 use native.Mathlib.Omega.{arith}
 use native.Mathlib.Nat.{not-suc-le-zero, le_of_suc-le-suc}
-use borrow.Author.Tests.{leb-true, leb-false, lt-leb, ltb-true, ltb-false}
+use borrow.Author.Tests.{leb-false, lt-leb, ltb-true, ltb-false}
 use lib.ListN.{length, get_or}
 use lib.Dec.{leb, ltb}
 use Rattle.field.specs.declared.Span.{Span}

@@ -1,6 +1,6 @@
 -- No second outcome: what a call of a filter answers and leaves is fixed by what it is given.
 use Prim.Native.Nat.{ℕ}
-use mathlib.Core.Path.{◌≡◌, subst}
+use mathlib.Core.Path.{subst}
 use Rattle.replies.proofs.Laws.{One}
 use Rattle.grid.specs.declared.Grid.{Grid}
 use Rattle.grid.specs.Grid.{width, height, columns}

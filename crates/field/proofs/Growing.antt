@@ -1,5 +1,5 @@
 -- A field whose columns cover the spans accepted there, and what becomes of it: one span more, a triangle's or a mesh's spans one by one, a filter.
-use mathlib.Core.Path.{◌≡◌, refl, sym, ap, subst, ◌∙◌}
+use mathlib.Core.Path.{◌≡◌, refl, sym, ap, ◌∙◌}
 use mathlib.Core.Logic.{◌≢◌, ⊎_elim}
 use mathlib.Core.Bool.{Bool, true, false, cond}
 use mathlib.Core.List.{List, [], ◌∷◌, ◌++◌, map}
@@ -15,13 +15,13 @@ use Rattle.grid.proofs.Places.{cell_below}
 use Rattle.field.specs.declared.Span.{Span}
 use Rattle.field.specs.Spans.{range, insert_column}
 use Rattle.field.specs.Field.{Field, column_at, spans, ranges, Inserted, insert}
-use Rattle.field.specs.Carrying.{Carried, went, stopped, Meshed, says_of, leaves, Work, carry, onward, carry_mesh}
+use Rattle.field.specs.Carrying.{Carried, went, stopped, says_of, leaves, Work, carry, onward, carry_mesh}
 use Rattle.field.specs.Filters.{Rule, filtered}
 use Rattle.field.specs.History.{Placed, put_in, put_all, put_said, in_column}
 use Rattle.field.proofs.Basics.{by-dec, by-test, true-false}
 use Rattle.field.proofs.Contents.{ranges-spans}
 use Rattle.field.proofs.Walking.{insert_range, column-ranges}
-use Rattle.field.proofs.Accepting.{Kept, Accepts, insert-cases}
+use Rattle.field.proofs.Accepting.{Kept, insert-cases}
 use Rattle.field.proofs.Stretching.{Covers, covers-insert}
 use Rattle.field.proofs.Sweeping.{with_areas, filtered-holds}
 use Rattle.field.proofs.Filtering.{filtered-keeps-ranges}

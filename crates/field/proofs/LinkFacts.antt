@@ -7,7 +7,6 @@ use Prim.Native.Nat.{ℕ, ◌+◌, ◌*◌, ◌<◌, ◌≤◌}
 use native.Mathlib.Omega.{arith}
 use lib.ListN.{length, get_or, get_or-eq_default}
 use Rattle.compact_span.specs.Word.{empty_mark}
-use Rattle.grid.specs.Grid.{height}
 use Rattle.grid.proofs.Places.{cell_below}
 use Rattle.field.specs.declared.Span.{Span}
 use Rattle.field.specs.Slots.{none}

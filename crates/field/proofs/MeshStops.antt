@@ -1,13 +1,12 @@
 -- The letter's third demand for a mesh: it stops for want of a slot only at a span that finds no room, being apart from its column while no slot is left.
-use mathlib.Core.Path.{◌≡◌, refl, sym, ap, subst, ◌∙◌}
-use mathlib.Core.Logic.{◌≢◌, inl, inr}
-use mathlib.Core.Bool.{false}
+use mathlib.Core.Path.{◌≡◌, sym, ap, subst, ◌∙◌}
+use mathlib.Core.Logic.{inl, inr}
 use mathlib.Core.List.{List, [], ◌∷◌, map}
 use Prim.Native.Nat.{ℕ, zero, suc, ◌+◌, ◌*◌, ◌≤◌}
 use native.Mathlib.Omega.{arith}
 use lib.ListN.{length, get_or, take, drop}
 use lib.Ieee.{Float}
-use Rattle.replies.specs.Said.{Value, whole, real, Said, say, just, Asks}
+use Rattle.replies.specs.Said.{Value, whole, real, Said, say, just}
 use Rattle.grid.specs.declared.Grid.{Grid}
 use Rattle.grid.specs.Grid.{width, height, columns, coordinate_ok, coordinate, first_outside}
 use Rattle.grid.proofs.Accepted.{accepted}
@@ -15,10 +14,10 @@ use Rattle.clip.specs.Work.{Event, insert as offer, stop, frame_of}
 use Rattle.clip.proofs.Works.{Proper, triangle-proper}
 use Rattle.grid.proofs.Places.{cell_below}
 use Rattle.field.specs.declared.Span.{Span}
-use Rattle.field.specs.Field.{Field, Holds, insert}
-use Rattle.field.specs.Store.{Store, Fitting, Sound, cleared, Outcome, left}
+use Rattle.field.specs.Field.{Field, Holds}
+use Rattle.field.specs.Store.{Store, cleared, Outcome, left}
 use Rattle.field.specs.Carrying.{Meshed, placed, halted, says_of, leaves, Work}
-use Rattle.field.specs.Meshes.{Mesh, corners_of, work_of, rasterized, Shaped, vertices_say, Builds, Takes, Rasterized}
+use Rattle.field.specs.Meshes.{Mesh, corners_of, work_of, rasterized, vertices_say, Builds, Rasterized}
 use Rattle.field.specs.History.{rasterize_triangles, Does, Step, History, Begins, Full}
 use Rattle.field.proofs.Basics.{by-test}
 use Rattle.field.proofs.Accepting.{Kept}

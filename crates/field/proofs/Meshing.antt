@@ -1,14 +1,14 @@
 -- Of a mesh's triangles one after another, as the loop over them goes: the next triangle, a stop, and the end.
-use mathlib.Core.Path.{◌≡◌, refl, sym, ap, subst, ◌∙◌}
+use mathlib.Core.Path.{◌≡◌, ap, subst, ◌∙◌}
 use mathlib.Core.List.{List, [], ◌∷◌}
-use Prim.Native.Nat.{ℕ, zero, suc, ◌+◌, ◌-◌, ◌≤◌, ◌<◌}
+use Prim.Native.Nat.{ℕ, suc, ◌+◌, ◌-◌, ◌≤◌, ◌<◌}
 use native.Mathlib.Numerals.{add-one}
 use native.Mathlib.Omega.{arith}
-use Rattle.replies.specs.Said.{Said, whole, say, just}
-use Rattle.clip.specs.Work.{Event, stop}
+use Rattle.replies.specs.Said.{whole, say, just}
+use Rattle.clip.specs.Work.{stop}
 use Rattle.field.specs.Slots.{Slots}
 use Rattle.field.specs.Field.{Field, Holds}
-use Rattle.field.specs.Carrying.{Carried, went, stopped, Meshed, placed, halted, says_of, leaves, Work, carry, onward, carry_mesh}
+use Rattle.field.specs.Carrying.{Carried, Meshed, placed, halted, says_of, leaves, Work, carry, onward, carry_mesh}
 use Rattle.field.specs.Working.{Remains, MeshRemains}
 
 module _ (width threshold : ℕ) (works : ℕ → Work) where

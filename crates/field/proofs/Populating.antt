@@ -1,10 +1,10 @@
 -- A mesh and then the filters: an ending tells whether all of the mesh was placed, and so whether the filters ran.
 use mathlib.Core.Path.{◌≡◌, refl, ap}
-use mathlib.Core.List.{List, [], ◌∷◌}
+use mathlib.Core.List.{[], ◌∷◌}
 use Prim.Native.Nat.{ℕ}
 use native.Mathlib.Omega.{arith}
 use lib.ListN.{length}
-use Rattle.replies.specs.Said.{Said, Value, whole, say, just}
+use Rattle.replies.specs.Said.{Said, Value, say, just}
 use Rattle.field.specs.Field.{Field}
 use Rattle.field.specs.Carrying.{Meshed, placed, halted, says_of, leaves}
 use Rattle.field.specs.Populate.{afterwards}

@@ -1,13 +1,13 @@
 -- Of rows and columns cut one after the other, counted as loops count them: what one turn takes off, what is left at the end, and how many insertions
 -- there can be.
-use mathlib.Core.Path.{◌≡◌, refl, sym, ap, ◌∙◌}
-use mathlib.Core.Bool.{Bool, true, false, not, ◌&&◌, cond}
+use mathlib.Core.Path.{◌≡◌, ◌∙◌}
+use mathlib.Core.Bool.{Bool, not, ◌&&◌}
 use mathlib.Core.List.{List, [], ◌∷◌}
-use Prim.Native.Nat.{ℕ, zero, suc, ◌+◌, ◌-◌, ◌*◌, ◌≤◌, ◌<◌, min}
+use Prim.Native.Nat.{ℕ, zero, suc, ◌+◌, ◌-◌, ◌*◌, ◌≤◌, ◌<◌}
 use native.Mathlib.Numerals.{add-one}
 use native.Mathlib.Omega.{arith}
 use lib.Dec.{leb, ltb}
-use lib.IntN.{ℤ, pos, negsuc, suc_ℤ, pred_ℤ, suc-pred}
+use lib.IntN.{ℤ, pos, negsuc, suc_ℤ, suc-pred}
 use lib.ListN.{length}
 use lib.Ieee.{Float}
 use borrow.Author.Tests.{lt-ltb, le-ltb, le-leb, lt-leb, leb-true, leb-false}
@@ -18,7 +18,6 @@ use Rattle.clip.specs.declared.cut.Axis.TheVariants.{X}
 use Rattle.clip.specs.Cut.{Cut, parts, eighth, first_of, second_of, cut_of}
 use Rattle.clip.specs.Arrays.{Arrays, arrays, polygon_at, half, Divided, divide_of}
 use Rattle.clip.specs.Cell.{flat_at, Celled, cell_cut_of}
-use Rattle.clip.specs.Slices.{held_first}
 use Rattle.clip.specs.Work.{Event, insert as offer, stop, and_then, on_cut, slices, within, from_to}
 use Rattle.clip.proofs.Places.{Long}
 use Rattle.clip.proofs.Cuts.{first-eighth, second-eighth, both-parts}

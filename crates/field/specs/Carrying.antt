@@ -4,7 +4,6 @@ use Rattle.std.specs.Prelude.{cond, List, [], ◌∷◌, drop}
 use Prim.Native.Nat.{ℕ, zero, suc, ◌+◌, ◌*◌}
 use Rattle.replies.specs.Said.{Said, whole, say, just}
 use Rattle.clip.specs.Work.{Event, insert as offer, stop}
-use Rattle.field.specs.declared.Span.{Span}
 use Rattle.field.specs.Field.{Field, insert}
 
 -- How far a triangle's work went: all of it, or up to a stop, which has its reply's number. Then how many of the triangle's insertions were made, and

@@ -1,5 +1,4 @@
 -- `clip::cell::count` meets its contract.
-use borrow.Author.Rules.{rules}
 use native.Mathlib.Omega.{arith}
 use Rattle.clip.proofs.CellRounds.{counted-first, counted-more}
 use Rattle.clip.proofs.cell.count.Goals as goal

@@ -1,5 +1,4 @@
 -- `clip::cell::count_if` meets its contract.
-use borrow.Author.Rules.{rules}
 use Rattle.clip.proofs.CellRounds.{piece-none}
 use Rattle.clip.proofs.cell.count_if.Goals as goal
 

@@ -1,15 +1,11 @@
 -- `clip::cell::go_round` meets its contract. The loop's invariant is that of `clip::cut::go_round`: what the vertices from i on still make of the parts is what the whole round makes of them,
 -- and so far no part has more than two vertices for each one passed.
-use borrow.Author.Rules.{rules}
-use mathlib.Core.Path.{◌≡◌, refl, sym, ap, ◌∙◌}
+use mathlib.Core.Path.{◌≡◌}
 use Prim.Native.Nat.{◌+◌, ◌-◌, ◌≤◌}
-use native.Mathlib.Omega.{arith}
-use Rattle.grid.specs.declared.Corner.{Corner}
 use Rattle.clip.specs.declared.cut.Axis.TheVariants.{X}
-use Rattle.clip.specs.declared.cell.Piece.{Piece}
 use Rattle.clip.specs.Cut.{distance}
-use Rattle.clip.specs.Cell.{Celled, celled}
-use Rattle.clip.proofs.Turns.{still, still-all, still-none, still-turn, grown-two}
+use Rattle.clip.specs.Cell.{celled}
+use Rattle.clip.proofs.Turns.{still}
 use Rattle.clip.proofs.CellRounds.{celling}
 use Rattle.clip.proofs.cell.go_round.Given as goal
 

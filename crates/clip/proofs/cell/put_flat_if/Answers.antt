@@ -1,5 +1,4 @@
 -- `clip::cell::put_flat_if` meets its contract.
-use borrow.Author.Rules.{rules}
 use Rattle.clip.proofs.cell.put_flat_if.Goals as goal
 
 pub returns-then-joins : goal.returns-then-joins

@@ -1,5 +1,4 @@
 -- `clip::cut::divide` meets its contract.
-use borrow.Author.Rules.{rules}
 use mathlib.Core.Path.{◌∙◌}
 use native.Mathlib.Omega.{arith}
 use Rattle.clip.proofs.Turns.{halves}

@@ -1,14 +1,10 @@
 -- `clip::cut::go_round` meets its contract. The loop's invariant: what the vertices from i on, with b before them, still make of the parts is what the whole round makes of them.
 -- So far no part has more than two vertices for each one passed.
-use borrow.Author.Rules.{rules}
-use mathlib.Core.Path.{◌≡◌, refl, sym, ap, ◌∙◌}
+use mathlib.Core.Path.{◌≡◌}
 use Prim.Native.Nat.{◌+◌, ◌-◌, ◌≤◌}
-use native.Mathlib.Omega.{arith}
-use lib.Ieee.{Float, binary32, sub}
-use Rattle.grid.specs.declared.Corner.{Corner}
 use Rattle.clip.specs.Cut.{distance}
-use Rattle.clip.specs.Arrays.{Divided, arrays, counts_of, divided}
-use Rattle.clip.proofs.Turns.{still, still-all, still-none, still-turn, grown-two}
+use Rattle.clip.specs.Arrays.{arrays, divided}
+use Rattle.clip.proofs.Turns.{still}
 use Rattle.clip.proofs.Rounds.{dividing}
 use Rattle.clip.proofs.cut.go_round.Given as goal
 

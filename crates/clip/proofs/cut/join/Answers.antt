@@ -1,5 +1,4 @@
 -- `clip::cut::join` meets its contract.
-use borrow.Author.Rules.{rules}
 use native.Mathlib.Omega.{arith}
 use Rattle.clip.proofs.Turns.{joining-one}
 use Rattle.clip.proofs.Rounds.{joined}

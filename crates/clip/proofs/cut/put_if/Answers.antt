@@ -1,5 +1,4 @@
 -- `clip::cut::put_if` meets its contract.
-use borrow.Author.Rules.{rules}
 use Rattle.clip.proofs.cut.put_if.Goals as goal
 
 pub returns-then-joins : goal.returns-then-joins

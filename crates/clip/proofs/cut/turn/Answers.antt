@@ -1,5 +1,4 @@
 -- `clip::cut::turn` meets its contract.
-use borrow.Author.Rules.{rules}
 use native.Mathlib.Omega.{arith}
 use lib.Ieee.{of_bits}
 use Rattle.clip.specs.Cut.{to_first, to_second}

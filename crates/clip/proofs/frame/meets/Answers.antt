@@ -1,5 +1,4 @@
 -- `clip::frame::meets` meets its contract.
-use borrow.Author.Rules.{rules}
 use mathlib.Core.Path.{◌≡◌, refl}
 use mathlib.Core.Bool.{Bool, ◌&&◌}
 use Prim.Native.Nat.{min}

@@ -1,5 +1,4 @@
 -- `clip::frame::reaches` meets its contract.
-use borrow.Author.Rules.{rules}
 use Rattle.clip.proofs.frame.reaches.Goals as goal
 
 pub returns-then-least_of-high : goal.returns-then-least_of-high

@@ -3,7 +3,7 @@ use borrow.Author.Rules.{rules}
 use mathlib.Core.Path.{◌≡◌, refl}
 use Prim.Native.Nat.{◌≤◌}
 use native.Mathlib.Omega.{arith}
-use lib.ListN.{length, length-map, replicate}
+use lib.ListN.{length, replicate}
 use lib.Ieee.{of_bits}
 use Rattle.clip.specs.Cut.{nought}
 use Rattle.clip.specs.Arrays.{Arrays, arrays}

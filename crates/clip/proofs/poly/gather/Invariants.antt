@@ -1,16 +1,8 @@
 -- `clip::poly::gather` meets its contract. The loop's invariant: the vertices from i on, put where they belong, make what all of them make.
-use borrow.Author.Rules.{rules}
-use mathlib.Core.Path.{◌≡◌, sym, ◌∙◌}
+use mathlib.Core.Path.{◌≡◌}
 use Prim.Native.Nat.{◌+◌, ◌-◌, ◌≤◌}
-use native.Mathlib.Nat.{add-zero}
-use native.Mathlib.Omega.{arith}
-use lib.ListN.{length, replicate}
 use lib.Seq.{sets}
-use lib.Ieee.{of_bits}
 use Rattle.clip.specs.Arrays.{arrays, polygon_at}
-use Rattle.clip.specs.Poly.{origin}
-use Rattle.clip.proofs.Cuts.{length-polygon}
-use Rattle.clip.proofs.Polys.{gather-turn, gather-end}
 use Rattle.clip.proofs.poly.gather.Given as goal
 
 abbrev pub invariant-loop-i : goal.invariant-loop-i

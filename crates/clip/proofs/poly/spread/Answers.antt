@@ -1,10 +1,10 @@
 -- `clip::poly::spread` meets its contract. The loop's invariant: the vertices from i on, written where they belong, leave what all of them leave.
 use borrow.Author.Rules.{rules}
 use mathlib.Core.Path.{◌≡◌, refl, ap, ◌∙◌}
-use Prim.Native.Nat.{◌+◌, ◌-◌, ◌≤◌}
+use Prim.Native.Nat.{◌+◌, ◌≤◌}
 use native.Mathlib.Omega.{arith}
-use lib.ListN.{length, length-map, take, drop}
-use Rattle.clip.specs.Arrays.{Arrays, arrays, written}
+use lib.ListN.{length, take, drop}
+use Rattle.clip.specs.Arrays.{Arrays, written}
 use Rattle.clip.proofs.Polys.{spread-turn, spread_end}
 use Rattle.clip.proofs.poly.spread.Goals as goal
 use Rattle.clip.proofs.poly.spread.Goals.{Start}

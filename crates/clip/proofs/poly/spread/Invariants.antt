@@ -1,11 +1,8 @@
 -- `clip::poly::spread` meets its contract. The loop's invariant: the vertices from i on, written where they belong, leave what all of them leave.
-use borrow.Author.Rules.{rules}
-use mathlib.Core.Path.{◌≡◌, refl, ap, ◌∙◌}
-use Prim.Native.Nat.{◌+◌, ◌-◌, ◌≤◌}
-use native.Mathlib.Omega.{arith}
-use lib.ListN.{length, length-map, take, drop}
-use Rattle.clip.specs.Arrays.{Arrays, arrays, written}
-use Rattle.clip.proofs.Polys.{spread-turn, spread_end}
+use mathlib.Core.Path.{◌≡◌}
+use Prim.Native.Nat.{◌-◌, ◌≤◌}
+use lib.ListN.{take, drop}
+use Rattle.clip.specs.Arrays.{arrays, written}
 use Rattle.clip.proofs.poly.spread.Given as goal
 
 abbrev pub invariant-loop-i : goal.invariant-loop-i

@@ -1,5 +1,4 @@
 -- `clip::slices::edge` meets its contract.
-use borrow.Author.Rules.{rules}
 use mir.Syntax.{w16}
 use mir.ValLaws.{to_z-of_z}
 use Rattle.clip.specs.Slices.{edge_of}

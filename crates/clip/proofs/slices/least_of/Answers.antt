@@ -1,8 +1,7 @@
 -- `clip::slices::least_of` meets its contract. The loop's invariant: y put together with the numbers from i on is what they all come to.
-use borrow.Author.Rules.{rules}
 use mathlib.Core.Path.{◌≡◌, refl, sym, ap, ◌∙◌}
 use mathlib.Core.List.{foldl}
-use Prim.Native.Nat.{ℕ, ◌+◌, ◌-◌, ◌≤◌, min}
+use Prim.Native.Nat.{ℕ, ◌+◌, ◌-◌, min}
 use native.Mathlib.Omega.{arith}
 use lib.Ieee.{Float, of_bits}
 use Rattle.ops.specs.Order.{lesser_of}

@@ -1,14 +1,9 @@
 -- `clip::slices::least_of` meets its contract. The loop's invariant: y put together with the numbers from i on is what they all come to.
-use borrow.Author.Rules.{rules}
-use mathlib.Core.Path.{◌≡◌, refl, sym, ap, ◌∙◌}
+use mathlib.Core.Path.{◌≡◌}
 use mathlib.Core.List.{foldl}
-use Prim.Native.Nat.{ℕ, ◌+◌, ◌-◌, ◌≤◌, min}
-use native.Mathlib.Omega.{arith}
-use lib.Ieee.{Float, of_bits}
+use Prim.Native.Nat.{◌-◌, ◌≤◌}
 use Rattle.ops.specs.Order.{lesser_of}
 use Rattle.clip.specs.Arrays.{numbers_at}
-use Rattle.clip.specs.Slices.{together, least_of}
-use Rattle.clip.proofs.Folds.{fold_start, fold-turn, fold_end}
 use Rattle.clip.proofs.slices.least_of.Given as goal
 
 abbrev pub invariant-loop-i : goal.invariant-loop-i
