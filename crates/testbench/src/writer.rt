@@ -1,5 +1,7 @@
 // What the program writes. Bytes gather in `bytes`, of which the first `at` wait, and go out together when there is no more room or the program is to wait for input.
 // After a write that failed no more goes out, and the next flush answers its error.
+ghost use Rattle.std.specs.Prelude.{◌<◌};
+
 use std::io;
 use std::io::{Stdout, Write};
 
