@@ -1,5 +1,5 @@
 // The commands, by number and by name.
-use check::same;
+use crate::words::same;
 
 pub const NOTHING: u32 = 0;
 
@@ -73,7 +73,7 @@ pub const POKE_NEXTS: u32 = 6;
 
 pub const POKE_MARKS: u32 = 7;
 
-#[derive(Drop)]
+#[derive(Clone, Copy)]
 pub struct Command {
     pub code: u32,
     pub a: u32,

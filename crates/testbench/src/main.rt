@@ -22,12 +22,14 @@ mod writer;
 use commands::Command;
 use lookup::least;
 use state::State;
+use std::io;
+use std::io::Stdin;
+use writer::Out;
 
 fn show(
     s: State,
     c: Command,
-    out: &mut [u8],
-    at: &mut usize,
+    out: &mut Out,
     heads: &[u32],
     floors: &[u16],
     ceilings: &[u16],
@@ -44,10 +46,10 @@ fn show(
     }
     let what = c.a;
     match what {
-        commands::SHOW_COLUMNS => shows::columns(s, out, at, heads, floors, ceilings, areas, nexts),
-        commands::SHOW_RAW => shows::raw(s, out, at, heads, floors, ceilings, areas, nexts),
-        commands::SHOW_COMPACT => shows::compact(s, out, at, firsts, counts, ys, links, grounds),
-        _ => map::map(s, out, at, heads, ceilings, areas, nexts),
+        commands::SHOW_COLUMNS => shows::columns(s, out, heads, floors, ceilings, areas, nexts),
+        commands::SHOW_RAW => shows::raw(s, out, heads, floors, ceilings, areas, nexts),
+        commands::SHOW_COMPACT => shows::compact(s, out, firsts, counts, ys, links, grounds),
+        _ => map::map(s, out, heads, ceilings, areas, nexts),
     }
 }
 
@@ -55,8 +57,7 @@ fn show(
 fn build(
     s: State,
     c: Command,
-    out: &mut [u8],
-    at: &mut usize,
+    out: &mut Out,
     heads: &mut [u32],
     floors: &mut [u16],
     ceilings: &mut [u16],
@@ -67,24 +68,23 @@ fn build(
     indices: &[u32],
     shades: &[u8],
 ) -> State {
-    let s1 = store::fresh(s, c, out, at, heads, floors, ceilings, areas, nexts);
-    let s2 = store::add(s1, c, out, at, heads, floors, ceilings, areas, nexts, marks);
+    let s1 = store::fresh(s, c, out, heads, floors, ceilings, areas, nexts);
+    let s2 = store::add(s1, c, out, heads, floors, ceilings, areas, nexts, marks);
     let s3 = meshcalls::rasterize(
-        s2, c, out, at, heads, floors, ceilings, areas, nexts, marks, vertices, indices, shades,
+        s2, c, out, heads, floors, ceilings, areas, nexts, marks, vertices, indices, shades,
     );
     let s4 = meshcalls::populate(
-        s3, c, out, at, heads, floors, ceilings, areas, nexts, marks, vertices, indices, shades,
+        s3, c, out, heads, floors, ceilings, areas, nexts, marks, vertices, indices, shades,
     );
-    store::filter(s4, c, out, at, heads, floors, ceilings, areas, nexts, marks);
-    pokes::poke(s4, c, out, at, heads, floors, ceilings, areas, nexts, marks)
+    store::filter(s4, c, out, heads, floors, ceilings, areas, nexts, marks);
+    pokes::poke(s4, c, out, heads, floors, ceilings, areas, nexts, marks)
 }
 
 // All calls, on slices cut to what is lent.
 fn work(
     s: State,
     c: Command,
-    out: &mut [u8],
-    at: &mut usize,
+    out: &mut Out,
     heads: &mut [u32],
     floors: &mut [u16],
     ceilings: &mut [u16],
@@ -101,15 +101,14 @@ fn work(
     grounds: &mut [u8],
 ) -> State {
     let built = build(
-        s, c, out, at, heads, floors, ceilings, areas, nexts, marks, vertices, indices, shades,
+        s, c, out, heads, floors, ceilings, areas, nexts, marks, vertices, indices, shades,
     );
     let packed = packing::pack(
-        built, c, out, at, heads, floors, ceilings, areas, nexts, marks, firsts, counts, ys, links,
+        built, c, out, heads, floors, ceilings, areas, nexts, marks, firsts, counts, ys, links,
         grounds,
     );
     show(
-        packed, c, out, at, heads, floors, ceilings, areas, nexts, firsts, counts, ys, links,
-        grounds,
+        packed, c, out, heads, floors, ceilings, areas, nexts, firsts, counts, ys, links, grounds,
     );
     packed
 }
@@ -118,8 +117,7 @@ fn work(
 fn lend(
     s: State,
     c: Command,
-    out: &mut [u8],
-    at: &mut usize,
+    out: &mut Out,
     heads: &mut [u32],
     floors: &mut [u16],
     ceilings: &mut [u16],
@@ -150,7 +148,6 @@ fn lend(
         s,
         c,
         out,
-        at,
         heads,
         &mut floors[0..a],
         &mut ceilings[0..b],
@@ -188,9 +185,9 @@ fn line_of<'a>(s: State, input: &'a [u8]) -> &'a [u8] {
 // Reads a line, or a piece of the input, and obeys.
 fn turn(
     s: State,
+    stdin: &mut Stdin,
     input: &mut [u8],
-    out: &mut [u8],
-    at: &mut usize,
+    out: &mut Out,
     heads: &mut [u32],
     floors: &mut [u16],
     ceilings: &mut [u16],
@@ -205,26 +202,27 @@ fn turn(
     ys: &mut [u16],
     links: &mut [u32],
     grounds: &mut [u8],
-) -> State {
-    let read = reader::advance(s, input, out, at);
+) -> io::Result<State> {
+    let read = reader::advance(s, stdin, input, out)?;
     let line = line_of(read, input);
     let c = command_of(read, line);
     let begun = settings::begin(read, c.code);
-    settings::speak(begun, c, line, out, at);
+    settings::speak(begun, c, line, out);
     store::forget(begun, c, heads, floors, ceilings, areas, nexts, marks);
     let set = settings::set(begun, c);
-    let shaped = mesh::add_vertex(set, c, out, at, vertices);
-    let faced = mesh::add_face(shaped, c, out, at, indices, shades);
-    lend(
-        faced, c, out, at, heads, floors, ceilings, areas, nexts, marks, vertices, indices, shades,
+    let shaped = mesh::add_vertex(set, c, out, vertices);
+    let faced = mesh::add_face(shaped, c, out, indices, shades);
+    Ok(lend(
+        faced, c, out, heads, floors, ceilings, areas, nexts, marks, vertices, indices, shades,
         firsts, counts, ys, links, grounds,
-    )
+    ))
 }
 
 // Line by line until the input is over. A proved loop has to end, so the turns are counted down from a number that no run uses up.
 fn run(
+    stdin: &mut Stdin,
     input: &mut [u8],
-    out: &mut [u8],
+    out: &mut Out,
     heads: &mut [u32],
     floors: &mut [u16],
     ceilings: &mut [u16],
@@ -239,23 +237,23 @@ fn run(
     ys: &mut [u16],
     links: &mut [u32],
     grounds: &mut [u8],
-) {
+) -> io::Result<()> {
     let mut s = state::start();
-    let mut at = 0;
     let mut turns: u64 = 18446744073709551615;
     while turns > 0 && !s.over {
         s = turn(
-            s, input, out, &mut at, heads, floors, ceilings, areas, nexts, marks, vertices,
-            indices, shades, firsts, counts, ys, links, grounds,
-        );
+            s, stdin, input, out, heads, floors, ceilings, areas, nexts, marks, vertices, indices,
+            shades, firsts, counts, ys, links, grounds,
+        )?;
         turns -= 1;
     }
-    writer::flush(out, at);
+    writer::flush(out)
 }
 
-fn main() {
+fn main(rt: HostRuntime) -> io::Result<()> {
+    let mut stdin = rt.stdin();
     let mut input = [0u8; 65536];
-    let mut out = [0u8; 65536];
+    let mut out = writer::onto(rt.stdout());
     let mut heads = [0u32; 16384];
     let mut floors = [0u16; 65536];
     let mut ceilings = [0u16; 65536];
@@ -271,6 +269,7 @@ fn main() {
     let mut links = [0u32; 65536];
     let mut grounds = [0u8; 65536];
     run(
+        &mut stdin,
         &mut input,
         &mut out,
         &mut heads,
@@ -287,5 +286,5 @@ fn main() {
         &mut ys,
         &mut links,
         &mut grounds,
-    );
+    )
 }

@@ -1,10 +1,10 @@
 // A map of the field from above, a character for each column.
 use crate::lookup::{byte_at, height_at, index, least, word_at};
 use crate::state::State;
-use crate::writer::{say, say_byte, say_number};
+use crate::writer::{Out, say, say_byte, say_number};
 
 // What is seen of a column: whether it has spans, whether one is walkable, and the ceiling of the topmost that is.
-#[derive(Drop)]
+#[derive(Clone, Copy)]
 struct Seen {
     spans: bool,
     walkable: bool,
@@ -47,7 +47,7 @@ fn look(head: u32, ceilings: &[u16], areas: &[u8], nexts: &[u32]) -> Seen {
 }
 
 // The least and the greatest of the heights on the map.
-#[derive(Drop)]
+#[derive(Clone, Copy)]
 struct Range {
     any: bool,
     low: u16,
@@ -131,16 +131,15 @@ fn mark_of(v: Seen, low: u16, step: u16) -> u8 {
 }
 
 // The line's end after the last column of a row.
-fn say_end(out: &mut [u8], at: &mut usize, across: usize) {
+fn say_end(out: &mut Out, across: usize) {
     if across == 0 {
-        say(out, at, b"\n");
+        say(out, b"\n");
     }
 }
 
 // The rows, x from left to right, z downwards.
 fn say_rows(
-    out: &mut [u8],
-    at: &mut usize,
+    out: &mut Out,
     width: usize,
     end: usize,
     low: u16,
@@ -154,9 +153,9 @@ fn say_rows(
     let mut across: usize = 0;
     while i < end {
         let v = look(word_at(heads, i), ceilings, areas, nexts);
-        say_byte(out, at, mark_of(v, low, step));
+        say_byte(out, mark_of(v, low, step));
         across = next_across(across, width);
-        say_end(out, at, across);
+        say_end(out, across);
         i += 1;
     }
 }
@@ -172,43 +171,33 @@ fn next_across(across: usize, width: usize) -> usize {
     0
 }
 
-fn say_range(out: &mut [u8], at: &mut usize, r: Range, step: u16) {
+fn say_range(out: &mut Out, r: Range, step: u16) {
     if r.any {
         say(
             out,
-            at,
             b"; else the top of the highest walkable span, from 0 for ",
         );
-        say_number(out, at, r.low as u64);
-        say(out, at, b" by ");
-        say_number(out, at, step as u64);
-        say(out, at, b" a character to ");
-        say_number(out, at, r.high as u64);
+        say_number(out, r.low as u64);
+        say(out, b" by ");
+        say_number(out, step as u64);
+        say(out, b" a character to ");
+        say_number(out, r.high as u64);
     }
 }
 
-fn say_legend(out: &mut [u8], at: &mut usize, r: Range, step: u16) {
-    say(out, at, b". no span, # no walkable span");
-    say_range(out, at, r, step);
-    say(out, at, b"\n");
+fn say_legend(out: &mut Out, r: Range, step: u16) {
+    say(out, b". no span, # no walkable span");
+    say_range(out, r, step);
+    say(out, b"\n");
 }
 
-pub fn map(
-    s: State,
-    out: &mut [u8],
-    at: &mut usize,
-    heads: &[u32],
-    ceilings: &[u16],
-    areas: &[u8],
-    nexts: &[u32],
-) {
-    say(out, at, b"show map\n");
+pub fn map(s: State, out: &mut Out, heads: &[u32], ceilings: &[u16], areas: &[u8], nexts: &[u32]) {
+    say(out, b"show map\n");
     let end = least(s.columns, heads.len());
     let r = range_of(end, heads, ceilings, areas, nexts);
     let step = step_of(r);
     say_rows(
         out,
-        at,
         index(s.width),
         end,
         r.low,
@@ -218,5 +207,5 @@ pub fn map(
         areas,
         nexts,
     );
-    say_legend(out, at, r, step);
+    say_legend(out, r, step);
 }

@@ -5,15 +5,11 @@ use crate::commands::Command;
 use crate::numbers::float_of;
 use crate::state::State;
 use crate::store::byte;
-use crate::writer::say;
+use crate::writer::{Out, say};
 
-fn no_room(s: State, out: &mut [u8], at: &mut usize) {
-    say_line(out, at, s.line);
-    say(
-        out,
-        at,
-        b"no room for more than 2000 vertices and 1000 faces\n",
-    );
+fn no_room(s: State, out: &mut Out) {
+    say_line(out, s.line);
+    say(out, b"no room for more than 2000 vertices and 1000 faces\n");
 }
 
 fn put_number(vertices: &mut [f32], i: usize, x: f32) -> bool {
@@ -53,13 +49,7 @@ fn with_corners(s: State, corners: usize, faces: usize) -> State {
     t
 }
 
-pub fn add_vertex(
-    s: State,
-    c: Command,
-    out: &mut [u8],
-    at: &mut usize,
-    vertices: &mut [f32],
-) -> State {
+pub fn add_vertex(s: State, c: Command, out: &mut Out, vertices: &mut [f32]) -> State {
     if c.code != commands::VERTEX {
         return s;
     }
@@ -70,7 +60,7 @@ pub fn add_vertex(
     if all_of(x, y, z) {
         return with_numbers(s, three_further(i));
     }
-    no_room(s, out, at);
+    no_room(s, out);
     s
 }
 
@@ -105,8 +95,7 @@ fn put_area(shades: &mut [u8], i: usize, area: u8) -> bool {
 pub fn add_face(
     s: State,
     c: Command,
-    out: &mut [u8],
-    at: &mut usize,
+    out: &mut Out,
     indices: &mut [u32],
     shades: &mut [u8],
 ) -> State {
@@ -120,6 +109,6 @@ pub fn add_face(
     if all_of(placed, shaded, true) {
         return with_corners(s, three_further(i), one_further(k));
     }
-    no_room(s, out, at);
+    no_room(s, out);
     s
 }

@@ -4,12 +4,12 @@ use crate::commands;
 use crate::commands::Command;
 use crate::state::State;
 use crate::store::{short, with_free};
+use crate::writer::Out;
 
 pub fn rasterize(
     s: State,
     c: Command,
-    out: &mut [u8],
-    at: &mut usize,
+    out: &mut Out,
     heads: &mut [u32],
     floors: &mut [u16],
     ceilings: &mut [u16],
@@ -39,15 +39,14 @@ pub fn rasterize(
         shades,
         short(c.a),
     );
-    answer(out, at, s.terse, commands::RASTERIZE, reply);
+    answer(out, s.terse, commands::RASTERIZE, reply);
     with_free(s, free)
 }
 
 pub fn populate(
     s: State,
     c: Command,
-    out: &mut [u8],
-    at: &mut usize,
+    out: &mut Out,
     heads: &mut [u32],
     floors: &mut [u16],
     ceilings: &mut [u16],
@@ -78,6 +77,6 @@ pub fn populate(
         short(c.a),
         short(c.b),
     );
-    answer(out, at, s.terse, commands::POPULATE, reply);
+    answer(out, s.terse, commands::POPULATE, reply);
     with_free(s, free)
 }

@@ -1,6 +1,6 @@
 // Numbers as text. A whole number is decimal or `0x` and hexadecimal digits, and fits 32 bits. A float is `0x` and its bits, or decimal, or one of `nan`,
 // `inf` and `-inf`; it goes on as its bits.
-use check::same;
+use crate::words::same;
 
 // What stands for a text that is no number, and for a number that 32 bits do not hold: that or more.
 pub const UNREADABLE: u64 = 4294967296;
@@ -116,7 +116,7 @@ pub fn bits_of(x: f32) -> u32 {
 
 // How far a decimal number is read: the place, the digits kept as one number, how many digits there were, how many of those after the point are kept, and
 // how many before it were left off.
-#[derive(Drop)]
+#[derive(Clone, Copy)]
 struct Digits {
     at: usize,
     value: u32,
@@ -206,7 +206,7 @@ fn mantissa(word: &[u8], at: usize) -> Digits {
 }
 
 // An exponent: its size, held to 10,000, whether it is below 0, and whether the word is read to its end.
-#[derive(Drop)]
+#[derive(Clone, Copy)]
 struct Exponent {
     size: u32,
     below: bool,

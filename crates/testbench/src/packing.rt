@@ -4,6 +4,7 @@ use crate::commands;
 use crate::commands::Command;
 use crate::state::State;
 use crate::store::short;
+use crate::writer::Out;
 use rerecast::{Reply, compact_heightfield};
 
 // Whether a reply comes with a compact result.
@@ -18,8 +19,7 @@ fn has_result(reply: Reply) -> bool {
 pub fn pack(
     s: State,
     c: Command,
-    out: &mut [u8],
-    at: &mut usize,
+    out: &mut Out,
     heads: &[u32],
     floors: &[u16],
     ceilings: &[u16],
@@ -54,7 +54,7 @@ pub fn pack(
         short(c.a),
         short(c.b),
     );
-    answer(out, at, s.terse, commands::COMPACT, reply);
+    answer(out, s.terse, commands::COMPACT, reply);
     let mut t = s;
     t.packed = has_result(reply);
     t.packed_width = s.width;

@@ -4,7 +4,7 @@ use crate::numbers::UNREADABLE;
 use crate::{commands, numbers, words};
 
 // How far a line's numbers are read: the place, how many there were, whether one of them was none, and the last.
-#[derive(Drop)]
+#[derive(Clone, Copy)]
 struct Reading {
     at: usize,
     count: u32,

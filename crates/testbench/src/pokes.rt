@@ -4,7 +4,7 @@ use crate::commands;
 use crate::commands::Command;
 use crate::state::State;
 use crate::store::{byte, short};
-use crate::writer::say;
+use crate::writer::{Out, say};
 
 fn put_word(on: bool, a: &mut [u32], end: usize, i: usize, value: u32) -> bool {
     if on {
@@ -74,18 +74,17 @@ fn with_free(s: State, c: Command, on: bool) -> State {
     t
 }
 
-fn say_failure(s: State, out: &mut [u8], at: &mut usize, done: bool) {
+fn say_failure(s: State, out: &mut Out, done: bool) {
     if !done {
-        say_line(out, at, s.line);
-        say(out, at, b"nothing is lent there\n");
+        say_line(out, s.line);
+        say(out, b"nothing is lent there\n");
     }
 }
 
 pub fn poke(
     s: State,
     c: Command,
-    out: &mut [u8],
-    at: &mut usize,
+    out: &mut Out,
     heads: &mut [u32],
     floors: &mut [u16],
     ceilings: &mut [u16],
@@ -100,6 +99,6 @@ pub fn poke(
     let b = put_in_heights(c, floors, ceilings);
     let d = put_in_bytes(c, areas, marks);
     let e = c.a == commands::POKE_FREE;
-    say_failure(s, out, at, either(either(a, b), either(d, e)));
+    say_failure(s, out, either(either(a, b), either(d, e)));
     with_free(s, c, e)
 }

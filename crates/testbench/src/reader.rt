@@ -1,6 +1,9 @@
 // The input, line by line. A piece of it waits in `input`, of which the bytes before `from` are read.
 use crate::state::State;
 use crate::writer;
+use crate::writer::Out;
+use std::io;
+use std::io::{Read, Stdin};
 
 // The first line end at or after `from`, or `to` where there is none before it.
 fn find(input: &[u8], from: usize, to: usize) -> usize {
@@ -41,16 +44,12 @@ fn shift(input: &mut [u8], from: usize, to: usize) -> usize {
 }
 
 // Reads more behind the first `to` bytes, and answers how many there are now.
-fn read_more(input: &mut [u8], to: usize) -> usize {
+fn read_more(stdin: &mut Stdin, input: &mut [u8], to: usize) -> io::Result<usize> {
     if to > input.len() {
-        return to;
+        return Ok(to);
     }
-    let got = libc::read(0, &mut input[to..]);
-    let n = io::count(got, input);
-    if n <= input.len() - to {
-        return to + n;
-    }
-    to
+    let n = stdin.read(&mut input[to..])?;
+    Ok(to + n)
 }
 
 // The line up to `end`, which goes on at `next`.
@@ -84,7 +83,7 @@ fn last(s: State) -> State {
 
 // Makes room and reads more. The answers go out first, since the read may wait for whoever waits for them. A line that fills all the room is dropped, and
 // named when its end is found.
-fn refill(s: State, input: &mut [u8], out: &[u8], at: &mut usize) -> State {
+fn refill(s: State, stdin: &mut Stdin, input: &mut [u8], out: &mut Out) -> io::Result<State> {
     let kept = shift(input, s.from, s.to);
     let mut t = s;
     t.ready = false;
@@ -93,26 +92,25 @@ fn refill(s: State, input: &mut [u8], out: &[u8], at: &mut usize) -> State {
     if kept >= input.len() {
         t.to = 0;
         t.dropping = true;
-        return t;
+        return Ok(t);
     }
-    writer::flush(out, *at);
-    *at = 0;
-    let now = read_more(input, kept);
+    writer::flush(out)?;
+    let now = read_more(stdin, input, kept)?;
     t.to = now;
     t.ended = now == kept;
-    t
+    Ok(t)
 }
 
 // Goes on by a line, or by a piece of the input, or to the end.
-pub fn advance(s: State, input: &mut [u8], out: &[u8], at: &mut usize) -> State {
+pub fn advance(s: State, stdin: &mut Stdin, input: &mut [u8], out: &mut Out) -> io::Result<State> {
     let from = s.from;
     let to = s.to;
     let end = find(input, from, to);
     if end < to {
-        return found(s, end, end + 1);
+        return Ok(found(s, end, end + 1));
     }
     if s.ended {
-        return last(s);
+        return Ok(last(s));
     }
-    refill(s, input, out, at)
+    refill(s, stdin, input, out)
 }

@@ -3,7 +3,7 @@ use crate::answers::say_line;
 use crate::commands::Command;
 use crate::numbers::float_of;
 use crate::state::State;
-use crate::writer::say;
+use crate::writer::{Out, say};
 use crate::{commands, state, words};
 use grid::{Corner, Grid};
 
@@ -65,98 +65,96 @@ pub fn set(s: State, c: Command) -> State {
 }
 
 // A word after a space; nothing where there is none.
-fn say_further(out: &mut [u8], at: &mut usize, line: &[u8], from: usize, to: usize) {
+fn say_further(out: &mut Out, line: &[u8], from: usize, to: usize) {
     if from < to {
-        say(out, at, b" ");
-        say(out, at, words::part(line, from, to));
+        say(out, b" ");
+        say(out, words::part(line, from, to));
     }
 }
 
 // A line's words, one space between them.
-fn say_words(out: &mut [u8], at: &mut usize, line: &[u8]) {
+fn say_words(out: &mut Out, line: &[u8]) {
     let first = words::next(line, 0);
     let mut from = first.from;
     let mut to = first.to;
-    say(out, at, words::part(line, from, to));
+    say(out, words::part(line, from, to));
     let mut left = line.len();
     while left > 0 && from < to {
         let w = words::next(line, to);
         from = w.from;
         to = w.to;
-        say_further(out, at, line, from, to);
+        say_further(out, line, from, to);
         left -= 1;
     }
-    say(out, at, b"\n");
+    say(out, b"\n");
 }
 
 // How the settings and the shapes are written.
-fn say_setting(out: &mut [u8], at: &mut usize, code: u32) {
+fn say_setting(out: &mut Out, code: u32) {
     match code {
-        commands::CASE => say(out, at, b"case NAME KIND"),
-        commands::GRID => say(out, at, b"grid MINX MINY MINZ MAXX MAXY MAXZ SIZE HEIGHT"),
-        commands::SLOTS => say(out, at, b"slots N, at most 65536"),
-        commands::SPANS => say(out, at, b"spans N, at most 65536"),
-        commands::VERTEX => say(out, at, b"v X Y Z"),
-        commands::AREA => say(out, at, b"area A, at most 255"),
-        commands::FACE => say(out, at, b"f I J K"),
-        commands::NOMESH => say(out, at, b"nomesh"),
-        commands::HELP => say(out, at, b"help"),
-        commands::TERSE => say(out, at, b"terse"),
-        commands::SHOW => say(out, at, b"show columns, show raw, show compact or show map"),
+        commands::CASE => say(out, b"case NAME KIND"),
+        commands::GRID => say(out, b"grid MINX MINY MINZ MAXX MAXY MAXZ SIZE HEIGHT"),
+        commands::SLOTS => say(out, b"slots N, at most 65536"),
+        commands::SPANS => say(out, b"spans N, at most 65536"),
+        commands::VERTEX => say(out, b"v X Y Z"),
+        commands::AREA => say(out, b"area A, at most 255"),
+        commands::FACE => say(out, b"f I J K"),
+        commands::NOMESH => say(out, b"nomesh"),
+        commands::HELP => say(out, b"help"),
+        commands::TERSE => say(out, b"terse"),
+        commands::SHOW => say(out, b"show columns, show raw, show compact or show map"),
         commands::POKE => say(
             out,
-            at,
             b"poke SLICE INDEX VALUE, the slice one of heads, free, floors, ceilings, areas, nexts, marks",
         ),
-        commands::TOO_LONG => say(out, at, b"a line of at most 65535 bytes"),
-        _ => say(out, at, b"a command: help lists them"),
+        commands::TOO_LONG => say(out, b"a line of at most 65535 bytes"),
+        _ => say(out, b"a command: help lists them"),
     }
 }
 
 // How any command is written.
-fn say_usage(out: &mut [u8], at: &mut usize, code: u32) {
+fn say_usage(out: &mut Out, code: u32) {
     match code {
-        commands::FRESH => say(out, at, b"fresh"),
-        commands::ADD => say(out, at, b"add X Z FLOOR CEILING AREA THRESHOLD"),
-        commands::RASTERIZE => say(out, at, b"rasterize THRESHOLD"),
-        commands::POPULATE => say(out, at, b"populate HEIGHT CLIMB"),
-        commands::LOW => say(out, at, b"low CLIMB"),
-        commands::LEDGES => say(out, at, b"ledges HEIGHT CLIMB"),
-        commands::CEILINGS => say(out, at, b"ceilings HEIGHT"),
-        commands::COMPACT => say(out, at, b"compact HEIGHT CLIMB"),
-        _ => say_setting(out, at, code),
+        commands::FRESH => say(out, b"fresh"),
+        commands::ADD => say(out, b"add X Z FLOOR CEILING AREA THRESHOLD"),
+        commands::RASTERIZE => say(out, b"rasterize THRESHOLD"),
+        commands::POPULATE => say(out, b"populate HEIGHT CLIMB"),
+        commands::LOW => say(out, b"low CLIMB"),
+        commands::LEDGES => say(out, b"ledges HEIGHT CLIMB"),
+        commands::CEILINGS => say(out, b"ceilings HEIGHT"),
+        commands::COMPACT => say(out, b"compact HEIGHT CLIMB"),
+        _ => say_setting(out, code),
     }
 }
 
-fn say_unread(out: &mut [u8], at: &mut usize, line: u64, code: u32) {
-    say_line(out, at, line);
-    say(out, at, b"cannot be read, expected ");
-    say_usage(out, at, code);
-    say(out, at, b"\n");
+fn say_unread(out: &mut Out, line: u64, code: u32) {
+    say_line(out, line);
+    say(out, b"cannot be read, expected ");
+    say_usage(out, code);
+    say(out, b"\n");
 }
 
-fn help(out: &mut [u8], at: &mut usize) {
+fn help(out: &mut Out) {
     say(
         out,
-        at,
         b"A command a line; # starts a comment. Whole numbers are decimal or 0x; floats are 0x and eight digits of bits, or decimal.\n",
     );
     let mut code: u32 = 1;
     while code < 21 {
-        say(out, at, b"  ");
-        say_usage(out, at, code);
-        say(out, at, b"\n");
+        say(out, b"  ");
+        say_usage(out, code);
+        say(out, b"\n");
         code += 1;
     }
 }
 
 // What is said at once: the case's line, the list of the commands, and that a line cannot be read.
-pub fn speak(s: State, c: Command, line: &[u8], out: &mut [u8], at: &mut usize) {
+pub fn speak(s: State, c: Command, line: &[u8], out: &mut Out) {
     let code = c.code;
     match code {
-        commands::CASE => say_words(out, at, line),
-        commands::HELP => help(out, at),
-        commands::UNREAD => say_unread(out, at, s.line, c.a),
+        commands::CASE => say_words(out, line),
+        commands::HELP => help(out),
+        commands::UNREAD => say_unread(out, s.line, c.a),
         _ => {}
     }
 }

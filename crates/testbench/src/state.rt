@@ -1,7 +1,7 @@
 // What the program knows from line to line, the lent slices apart.
 use grid::{Corner, Grid, GridReply};
 
-#[derive(Drop)]
+#[derive(Clone, Copy)]
 pub struct State {
     // whether only the bare answers are written
     pub terse: bool,
@@ -118,7 +118,7 @@ pub fn forgotten(s: State) -> State {
 }
 
 // The grid's size, or 0 by 0 where it is refused.
-#[derive(Drop)]
+#[derive(Clone, Copy)]
 pub struct Size {
     pub width: u32,
     pub height: u32,

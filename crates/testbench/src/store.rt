@@ -3,6 +3,7 @@ use crate::answers::answer;
 use crate::commands;
 use crate::commands::Command;
 use crate::state::State;
+use crate::writer::Out;
 use field::Span;
 use rerecast::{heightfield, pre_filter};
 
@@ -23,8 +24,7 @@ pub fn with_free(s: State, free: u32) -> State {
 pub fn fresh(
     s: State,
     c: Command,
-    out: &mut [u8],
-    at: &mut usize,
+    out: &mut Out,
     heads: &mut [u32],
     floors: &mut [u16],
     ceilings: &mut [u16],
@@ -37,7 +37,7 @@ pub fn fresh(
     let grid = s.grid;
     let mut free = s.free;
     let reply = heightfield::fresh(grid, heads, &mut free, floors, ceilings, areas, nexts);
-    answer(out, at, s.terse, commands::FRESH, reply);
+    answer(out, s.terse, commands::FRESH, reply);
     let mut t = with_free(s, free);
     t.packed = false;
     t
@@ -46,8 +46,7 @@ pub fn fresh(
 pub fn add(
     s: State,
     c: Command,
-    out: &mut [u8],
-    at: &mut usize,
+    out: &mut Out,
     heads: &mut [u32],
     floors: &mut [u16],
     ceilings: &mut [u16],
@@ -79,15 +78,14 @@ pub fn add(
         span,
         short(c.f),
     );
-    answer(out, at, s.terse, commands::ADD, reply);
+    answer(out, s.terse, commands::ADD, reply);
     with_free(s, free)
 }
 
 fn low(
     s: State,
     c: Command,
-    out: &mut [u8],
-    at: &mut usize,
+    out: &mut Out,
     heads: &[u32],
     floors: &[u16],
     ceilings: &[u16],
@@ -111,14 +109,13 @@ fn low(
         marks,
         short(c.a),
     );
-    answer(out, at, s.terse, commands::LOW, reply);
+    answer(out, s.terse, commands::LOW, reply);
 }
 
 fn ledges(
     s: State,
     c: Command,
-    out: &mut [u8],
-    at: &mut usize,
+    out: &mut Out,
     heads: &[u32],
     floors: &[u16],
     ceilings: &[u16],
@@ -143,14 +140,13 @@ fn ledges(
         short(c.a),
         short(c.b),
     );
-    answer(out, at, s.terse, commands::LEDGES, reply);
+    answer(out, s.terse, commands::LEDGES, reply);
 }
 
 fn ceilings_low(
     s: State,
     c: Command,
-    out: &mut [u8],
-    at: &mut usize,
+    out: &mut Out,
     heads: &[u32],
     floors: &[u16],
     ceilings: &[u16],
@@ -174,15 +170,14 @@ fn ceilings_low(
         marks,
         short(c.a),
     );
-    answer(out, at, s.terse, commands::CEILINGS, reply);
+    answer(out, s.terse, commands::CEILINGS, reply);
 }
 
 // The filter that the command names, if it names one.
 pub fn filter(
     s: State,
     c: Command,
-    out: &mut [u8],
-    at: &mut usize,
+    out: &mut Out,
     heads: &[u32],
     floors: &[u16],
     ceilings: &[u16],
@@ -190,9 +185,9 @@ pub fn filter(
     nexts: &[u32],
     marks: &mut [u8],
 ) {
-    low(s, c, out, at, heads, floors, ceilings, areas, nexts, marks);
-    ledges(s, c, out, at, heads, floors, ceilings, areas, nexts, marks);
-    ceilings_low(s, c, out, at, heads, floors, ceilings, areas, nexts, marks);
+    low(s, c, out, heads, floors, ceilings, areas, nexts, marks);
+    ledges(s, c, out, heads, floors, ceilings, areas, nexts, marks);
+    ceilings_low(s, c, out, heads, floors, ceilings, areas, nexts, marks);
 }
 
 // ---- forgetting

@@ -1,7 +1,7 @@
 // The words of a line: what stands between spaces, up to a `#`.
 
 // A word's place in its line; where both are the same, there is none.
-#[derive(Drop)]
+#[derive(Clone, Copy)]
 pub struct Word {
     pub from: usize,
     pub to: usize,
@@ -64,4 +64,8 @@ pub fn before_comment(line: &[u8]) -> usize {
         i += 1;
     }
     i
+}
+
+pub fn same(a: &[u8], b: &[u8]) -> bool {
+    a == b
 }

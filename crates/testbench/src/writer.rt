@@ -1,51 +1,108 @@
-// What the program writes. Bytes gather in `out`, of which the first `at` wait, and go out together when there is no more room or the program is to wait for input.
+// What the program writes. Bytes gather in `bytes`, of which the first `at` wait, and go out together when there is no more room or the program is to wait for input.
+// After a write that failed no more goes out, and the next flush answers its error.
+ghost use Rattle.std.specs.Prelude.{◌<◌};
 
-// Puts one byte behind the `at` that wait, and answers how many wait now.
-fn put(out: &mut [u8], at: usize, b: u8) -> usize {
-    if at < out.len() {
-        out[at] = b;
-        return at + 1;
-    }
-    io::write_all(1, out);
-    if 0 < out.len() {
-        out[0] = b;
-        return 1;
-    }
-    0
+use std::io;
+use std::io::{Stdout, Write};
+
+#[derive(Drop)]
+pub struct Out {
+    to: Stdout,
+    bytes: [u8; 65536],
+    at: usize,
+    failed: Option<io::Error>,
 }
 
-pub fn say(out: &mut [u8], at: &mut usize, text: &[u8]) {
-    let mut n = *at;
-    let mut i = 0;
-    while i < text.len() {
-        n = put(out, n, text[i]);
-        i += 1;
+pub fn onto(to: Stdout) -> Out {
+    Out {
+        to,
+        bytes: [0; 65536],
+        at: 0,
+        failed: None,
     }
-    *at = n;
 }
 
-pub fn say_byte(out: &mut [u8], at: &mut usize, b: u8) {
-    *at = put(out, *at, b);
+// Writes the bytes that wait. From here on none does.
+fn send(out: &mut Out) {
+    let at = out.at;
+    out.at = 0;
+    if out.failed.is_none() {
+        if at <= out.bytes.len() {
+            if let Err(e) = out.to.write_all(&out.bytes[..at]) {
+                out.failed = Some(e);
+            }
+        }
+    }
+}
+
+// Puts one byte behind those that wait.
+fn put(out: &mut Out, b: u8) {
+    if out.at >= out.bytes.len() {
+        send(out);
+    }
+    let at = out.at;
+    if at < out.bytes.len() {
+        out.bytes[at] = b;
+        out.at = at + 1;
+    }
+}
+
+pub fn say(out: &mut Out, text: &[u8]) {
+    for b in text {
+        put(out, *b);
+    }
+}
+
+pub fn say_byte(out: &mut Out, b: u8) {
+    put(out, b);
 }
 
 // A whole number in decimal digits.
-pub fn say_number(out: &mut [u8], at: &mut usize, n: u64) {
+pub fn say_number(out: &mut Out, n: u64) {
     let mut text = [0u8; 20];
-    let k = io::decimal(n, &mut text);
-    say(out, at, &text[..k]);
+    let mut from = 20;
+    let mut rest = n;
+    while from > 0 {
+        from -= 1;
+        text[from] = digit(rest % 10);
+        rest /= 10;
+        if rest == 0 {
+            break;
+        }
+    }
+    say(out, &text[from..]);
 }
 
 // A word as `0x` and eight digits.
-pub fn say_bits(out: &mut [u8], at: &mut usize, n: u32) {
-    let mut text = [0u8; 16];
-    let k = io::hex(n as u64, 8, &mut text);
-    say(out, at, b"0x");
-    say(out, at, &text[..k]);
+pub fn say_bits(out: &mut Out, n: u32) {
+    let mut text = [0u8; 8];
+    let mut from = 8;
+    let mut rest = n as u64;
+    while from > 0 {
+        from -= 1;
+        text[from] = digit(rest % 16);
+        rest /= 16;
+    }
+    say(out, b"0x");
+    say(out, &text);
+}
+
+// A digit of base ten or sixteen: 0 to 9, then a to f.
+fn digit(d: u64) -> u8
+    requires { d < 16 }
+{
+    if d < 10 {
+        b'0' + d as u8
+    } else {
+        b'a' - 10 + d as u8
+    }
 }
 
 // Sends out what still waits.
-pub fn flush(out: &[u8], at: usize) {
-    if at <= out.len() {
-        io::write_all(1, &out[0..at]);
+pub fn flush(out: &mut Out) -> io::Result<()> {
+    send(out);
+    match out.failed {
+        Some(e) => Err(e),
+        None => Ok(()),
     }
 }

@@ -1,0 +1,5 @@
+-- `run` ends.
+use Rattle.testbench.proofs.run.Given as goal
+
+abbrev pub decreases-loop-turns : goal.decreases-loop-turns
+decreases-loop-turns l = l.turns

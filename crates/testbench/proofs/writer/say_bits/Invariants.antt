@@ -1,0 +1,9 @@
+-- The digits of `say_bits` stay within their array, and it ends.
+use Rattle.std.proofs.Common.{◌≤◌}
+use Rattle.testbench.proofs.writer.say_bits.Given as goal
+
+abbrev pub invariant-loop-from : goal.invariant-loop-from
+invariant-loop-from l = l.from ≤ 8
+
+abbrev pub decreases-loop-from : goal.decreases-loop-from
+decreases-loop-from l = l.from
