@@ -9,6 +9,7 @@ use crate::print::{
 use field::Span;
 use grid::{Corner, Grid};
 use rerecast::{Reply, compact_heightfield, heightfield};
+use std::io;
 
 // ---- the field
 
@@ -127,7 +128,7 @@ fn compact(
 // ---- crowded columns
 
 // A column of 255 floors, and one more if asked for: the reply, and the entries of both cells and of the one past them.
-fn try_crowd(name: &[u8], one_more: bool) {
+fn try_crowd(rt: &impl Print, name: &[u8], one_more: bool) -> io::Result<()> {
     let mut heads = [0u32; 2];
     let mut free = 0u32;
     let mut floors = [0u16; 256];
@@ -178,22 +179,28 @@ fn try_crowd(name: &[u8], one_more: bool) {
         &mut span_areas,
         5,
     );
-    say(name);
-    say_six(number(reply));
-    say_byte(cell_counts[0]);
-    say_byte(cell_counts[1]);
-    say_byte(cell_counts[2]);
-    say_height(ys[0]);
-    say_height(ys[254]);
-    say_height(ys[255]);
-    say(b"\n");
+    say(rt, name)?;
+    say_six(rt, number(reply))?;
+    say_byte(rt, cell_counts[0])?;
+    say_byte(rt, cell_counts[1])?;
+    say_byte(rt, cell_counts[2])?;
+    say_height(rt, ys[0])?;
+    say_height(rt, ys[254])?;
+    say_height(rt, ys[255])?;
+    say(rt, b"\n")
 }
 
-fn crowded_columns() {
-    say(b"a column of floors beside an empty one; 7 stood in every entry\n");
-    say(b"  floors reply  count of 0, of 1, past   first y, last y, past\n");
-    try_crowd(b"     255", false);
-    try_crowd(b"     256", true);
+fn crowded_columns(rt: &impl Print) -> io::Result<()> {
+    say(
+        rt,
+        b"a column of floors beside an empty one; 7 stood in every entry\n",
+    )?;
+    say(
+        rt,
+        b"  floors reply  count of 0, of 1, past   first y, last y, past\n",
+    )?;
+    try_crowd(rt, b"     255", false)?;
+    try_crowd(rt, b"     256", true)
 }
 
 // ---- links
@@ -204,7 +211,7 @@ fn behind(layer: u8) -> usize {
 }
 
 // A floor beside a stack, level with one of its layers: the reply, the floor's link in direction 2, and the link back from that layer.
-fn try_level(layers: u8, level: u8, tall: u16) {
+fn try_level(rt: &impl Print, layers: u8, level: u8, tall: u16) -> io::Result<()> {
     let mut heads = [0u32; 2];
     let mut free = 0u32;
     let mut floors = [0u16; 256];
@@ -253,32 +260,36 @@ fn try_level(layers: u8, level: u8, tall: u16) {
         &mut span_areas,
         tall,
     );
-    say_byte(layers);
-    say_byte(level);
-    say_height(tall);
-    say_six(number(reply));
-    say_layer(reply);
-    say_link(data[0], 2);
+    say_byte(rt, layers)?;
+    say_byte(rt, level)?;
+    say_height(rt, tall)?;
+    say_six(rt, number(reply))?;
+    say_layer(rt, reply)?;
+    say_link(rt, data[0], 2)?;
     let back = behind(level);
     if back < 256 {
-        say_link(data[back], 0);
+        say_link(rt, data[back], 0)?;
     }
-    say(b"   ");
-    say_top(reply);
-    say(b"\n");
+    say(rt, b"   ")?;
+    say_top(rt, reply)?;
+    say(rt, b"\n")
 }
 
-fn links() {
+fn links(rt: &impl Print) -> io::Result<()> {
     say(
+        rt,
         b"a floor level with a layer of the stack beside it (direction 2), climb 0, box up to 64, cells 0.5 high\n",
-    );
-    say(b" stack level  tall reply layer  link  back   raised y\n");
-    try_level(62, 61, 5);
-    try_level(63, 62, 5);
-    try_level(64, 63, 5);
-    try_level(255, 254, 5);
-    try_level(1, 0, 255);
-    try_level(1, 0, 256);
+    )?;
+    say(
+        rt,
+        b" stack level  tall reply layer  link  back   raised y\n",
+    )?;
+    try_level(rt, 62, 61, 5)?;
+    try_level(rt, 63, 62, 5)?;
+    try_level(rt, 64, 63, 5)?;
+    try_level(rt, 255, 254, 5)?;
+    try_level(rt, 1, 0, 255)?;
+    try_level(rt, 1, 0, 256)
 }
 
 // ---- slices
@@ -332,58 +343,61 @@ fn compact_four(ys: &mut [u16], data: &mut [u32], span_areas: &mut [u8]) -> Repl
     )
 }
 
-fn short_ys() {
+fn short_ys(rt: &impl Print) -> io::Result<()> {
     let mut ys = [7u16; 3];
     let mut data = [7u32; 4];
     let mut areas = [7u8; 4];
     let reply = compact_four(&mut ys, &mut data, &mut areas);
-    say_rows(b"  a y too few", reply, &ys, &data, &areas);
+    say_rows(rt, b"  a y too few", reply, &ys, &data, &areas)
 }
 
-fn short_data() {
+fn short_data(rt: &impl Print) -> io::Result<()> {
     let mut ys = [7u16; 4];
     let mut data = [7u32; 3];
     let mut areas = [7u8; 4];
     let reply = compact_four(&mut ys, &mut data, &mut areas);
-    say_rows(b"  a word too few", reply, &ys, &data, &areas);
+    say_rows(rt, b"  a word too few", reply, &ys, &data, &areas)
 }
 
-fn short_areas() {
+fn short_areas(rt: &impl Print) -> io::Result<()> {
     let mut ys = [7u16; 4];
     let mut data = [7u32; 4];
     let mut areas = [7u8; 3];
     let reply = compact_four(&mut ys, &mut data, &mut areas);
-    say_rows(b"  an area too few", reply, &ys, &data, &areas);
+    say_rows(rt, b"  an area too few", reply, &ys, &data, &areas)
 }
 
-fn just_enough() {
+fn just_enough(rt: &impl Print) -> io::Result<()> {
     let mut ys = [7u16; 4];
     let mut data = [7u32; 4];
     let mut areas = [7u8; 4];
     let reply = compact_four(&mut ys, &mut data, &mut areas);
-    say_rows(b"  just enough", reply, &ys, &data, &areas);
+    say_rows(rt, b"  just enough", reply, &ys, &data, &areas)
 }
 
-fn two_more() {
+fn two_more(rt: &impl Print) -> io::Result<()> {
     let mut ys = [7u16; 6];
     let mut data = [7u32; 6];
     let mut areas = [7u8; 6];
     let reply = compact_four(&mut ys, &mut data, &mut areas);
-    say_rows(b"  two more", reply, &ys, &data, &areas);
+    say_rows(rt, b"  two more", reply, &ys, &data, &areas)
 }
 
-fn slices() {
-    say(b"four open spaces in slices of different lengths; 7 stood in every entry\n");
-    say(b"         y height link0 link1 link2 link3  area\n");
-    short_ys();
-    short_data();
-    short_areas();
-    just_enough();
-    two_more();
+fn slices(rt: &impl Print) -> io::Result<()> {
+    say(
+        rt,
+        b"four open spaces in slices of different lengths; 7 stood in every entry\n",
+    )?;
+    say(rt, b"         y height link0 link1 link2 link3  area\n")?;
+    short_ys(rt)?;
+    short_data(rt)?;
+    short_areas(rt)?;
+    just_enough(rt)?;
+    two_more(rt)
 }
 
-fn main() {
-    crowded_columns();
-    links();
-    slices();
+fn main(rt: HostRuntime) -> io::Result<()> {
+    crowded_columns(&rt)?;
+    links(&rt)?;
+    slices(&rt)
 }

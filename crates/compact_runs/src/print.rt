@@ -1,82 +1,83 @@
 // How the runs print what a call answers and leaves.
 use compact_span::{CompactSpan, Con, Link};
 use rerecast::Reply;
+use std::io;
 
-pub(crate) fn say(s: &[u8]) {
-    io::write_all(1, s);
+pub(crate) fn say(rt: &impl Print, s: &[u8]) -> io::Result<()> {
+    rt.write_all(s)
 }
 
-pub(crate) fn say_number(n: u64) {
-    io::print_decimal(1, n);
+pub(crate) fn say_number(rt: &impl Print, n: u64) -> io::Result<()> {
+    rt.print(n)
 }
 
 // A number in a field of six.
-pub(crate) fn say_six(n: u64) {
+pub(crate) fn say_six(rt: &impl Print, n: u64) -> io::Result<()> {
     if n < 10 {
-        say(b"     ");
+        say(rt, b"     ")?;
     } else if n < 100 {
-        say(b"    ");
+        say(rt, b"    ")?;
     } else if n < 1000 {
-        say(b"   ");
+        say(rt, b"   ")?;
     } else if n < 10000 {
-        say(b"  ");
+        say(rt, b"  ")?;
     } else {
-        say(b" ");
+        say(rt, b" ")?;
     }
-    say_number(n);
+    say_number(rt, n)
 }
 
-pub(crate) fn say_height(y: u16) {
-    say_six(y as u64);
+pub(crate) fn say_height(rt: &impl Print, y: u16) -> io::Result<()> {
+    say_six(rt, y as u64)
 }
 
-pub(crate) fn say_byte(b: u8) {
-    say_six(b as u64);
+pub(crate) fn say_byte(rt: &impl Print, b: u8) -> io::Result<()> {
+    say_six(rt, b as u64)
 }
 
 // The link of a word in a direction, in a field of six.
-pub(crate) fn say_link(data: u32, dir: u8) {
+pub(crate) fn say_link(rt: &impl Print, data: u32, dir: u8) -> io::Result<()> {
     let span = CompactSpan { y: 0, data };
     let con = span.con(dir);
     match con {
-        Con::Refused => say(b"     ?"),
+        Con::Refused => say(rt, b"     ?"),
         Con::Link(link) => match link {
-            Link::Empty => say(b"     -"),
-            Link::To(layer) => say_byte(layer),
+            Link::Empty => say(rt, b"     -"),
+            Link::To(layer) => say_byte(rt, layer),
         },
     }
 }
 
 // The layer that reply 12 carries, in a field of six.
-pub(crate) fn say_layer(r: Reply) {
+pub(crate) fn say_layer(rt: &impl Print, r: Reply) -> io::Result<()> {
     if let Reply::Layers(layer, _) = r {
-        say_byte(layer);
+        say_byte(rt, layer)
     } else {
-        say(b"     -");
+        say(rt, b"     -")
     }
 }
 
 // A raised greatest y: 64 and the walkable height times 0.5, for each walkable height that is tried.
-pub(crate) fn say_raised(top: f32) {
+pub(crate) fn say_raised(rt: &impl Print, top: f32) -> io::Result<()> {
     if top == 66.5 {
-        say(b"66.5");
+        say(rt, b"66.5")
     } else if top == 191.5 {
-        say(b"191.5");
+        say(rt, b"191.5")
     } else if top == 192.0 {
-        say(b"192");
+        say(rt, b"192")
     } else {
-        say(b"another");
+        say(rt, b"another")
     }
 }
 
 // The raised greatest y that a complete result's reply carries.
-pub(crate) fn say_top(r: Reply) {
+pub(crate) fn say_top(rt: &impl Print, r: Reply) -> io::Result<()> {
     if let Reply::Compacted(top) = r {
-        say_raised(top);
+        say_raised(rt, top)
     } else if let Reply::Layers(_, top) = r {
-        say_raised(top);
+        say_raised(rt, top)
     } else {
-        say(b"none");
+        say(rt, b"none")
     }
 }
 
@@ -85,30 +86,44 @@ pub(crate) fn number(r: Reply) -> u64 {
 }
 
 // An entry of the rows, where there is one: y, height, the four links and the area.
-pub(crate) fn say_row(ys: &[u16], data: &[u32], areas: &[u8], k: usize) {
+pub(crate) fn say_row(
+    rt: &impl Print,
+    ys: &[u16],
+    data: &[u32],
+    areas: &[u8],
+    k: usize,
+) -> io::Result<()> {
     if k < ys.len() && k < data.len() && k < areas.len() {
         let word = data[k];
-        say(b"    ");
-        say_height(ys[k]);
-        say_byte(CompactSpan::height_in(word));
-        say_link(word, 0);
-        say_link(word, 1);
-        say_link(word, 2);
-        say_link(word, 3);
-        say_byte(areas[k]);
-        say(b"\n");
+        say(rt, b"    ")?;
+        say_height(rt, ys[k])?;
+        say_byte(rt, CompactSpan::height_in(word))?;
+        say_link(rt, word, 0)?;
+        say_link(rt, word, 1)?;
+        say_link(rt, word, 2)?;
+        say_link(rt, word, 3)?;
+        say_byte(rt, areas[k])?;
+        say(rt, b"\n")?;
     }
+    Ok(())
 }
 
-pub(crate) fn say_rows(name: &[u8], reply: Reply, ys: &[u16], data: &[u32], areas: &[u8]) {
-    say(name);
-    say(b": reply ");
-    say_number(number(reply));
-    say(b"\n");
-    say_row(ys, data, areas, 0);
-    say_row(ys, data, areas, 1);
-    say_row(ys, data, areas, 2);
-    say_row(ys, data, areas, 3);
-    say_row(ys, data, areas, 4);
-    say_row(ys, data, areas, 5);
+pub(crate) fn say_rows(
+    rt: &impl Print,
+    name: &[u8],
+    reply: Reply,
+    ys: &[u16],
+    data: &[u32],
+    areas: &[u8],
+) -> io::Result<()> {
+    say(rt, name)?;
+    say(rt, b": reply ")?;
+    say_number(rt, number(reply))?;
+    say(rt, b"\n")?;
+    say_row(rt, ys, data, areas, 0)?;
+    say_row(rt, ys, data, areas, 1)?;
+    say_row(rt, ys, data, areas, 2)?;
+    say_row(rt, ys, data, areas, 3)?;
+    say_row(rt, ys, data, areas, 4)?;
+    say_row(rt, ys, data, areas, 5)
 }

@@ -5,6 +5,7 @@ use crate::show;
 use field::NONE;
 use grid::{Corner, Grid};
 use rerecast::{heightfield, rasterize};
+use std::io;
 
 fn plain() -> Grid {
     Grid {
@@ -24,7 +25,7 @@ fn plain() -> Grid {
 }
 
 // A triangle that leans into the last columns of the last rows.
-fn run(heads: &mut [u32]) {
+fn run(rt: &impl Print, heads: &mut [u32]) -> io::Result<()> {
     let mut free = NONE;
     let mut floors = [0u16; 16];
     let mut ceilings = [0u16; 16];
@@ -67,9 +68,9 @@ fn run(heads: &mut [u32]) {
         255,
         1,
     );
-    show::say(b"4,096 by 256 cells");
-    show::say_reply(reply);
-    show::say_columns(heads, &floors, &ceilings, &areas, &nexts, 4096);
+    show::say(rt, b"4,096 by 256 cells")?;
+    show::say_reply(rt, reply)?;
+    show::say_columns(rt, heads, &floors, &ceilings, &areas, &nexts, 4096)
 }
 
 // A head for each column.
@@ -79,7 +80,7 @@ fn all_heads() -> [u32; 1048576]
     [NONE; 1048576]
 }
 
-pub(crate) fn widest() {
+pub(crate) fn widest(rt: &impl Print) -> io::Result<()> {
     let mut heads = all_heads();
-    run(&mut heads);
+    run(rt, &mut heads)
 }

@@ -1,6 +1,7 @@
 // Fields damaged in every way, each offered a span.
 use crate::{Store, say, try_add};
 use field::NONE;
+use std::io;
 
 // A sound field: [2,5] and [7,9] in column 0 (slots 0 and 1), [1,1] in column 1 (slot 2), slot 3 free.
 fn sound() -> Store {
@@ -47,45 +48,54 @@ fn with_ceilings(ceilings: [u16; 4]) -> Store {
     s
 }
 
-fn damaged(name: &[u8], s: Store) {
-    try_add(name, s, 0, 0, 20, 21);
+fn damaged(rt: &impl Print, name: &[u8], s: Store) -> io::Result<()> {
+    try_add(rt, name, s, 0, 0, 20, 21)?;
+    Ok(())
 }
 
-pub(crate) fn damaged_fields() {
-    say(b"[20,21] at 0,0 offered to a field that is damaged\n");
-    damaged(b"  in no way                       ", sound());
+pub(crate) fn damaged_fields(rt: &impl Print) -> io::Result<()> {
+    say(rt, b"[20,21] at 0,0 offered to a field that is damaged\n")?;
+    damaged(rt, b"  in no way                       ", sound())?;
     damaged(
+        rt,
         b"  in no way: a span right above   ",
         with_floors([2, 6, 1, 0]),
-    );
+    )?;
     damaged(
+        rt,
         b"  a column runs in a circle       ",
         with_nexts([0, NONE, NONE, NONE]),
-    );
+    )?;
     damaged(
+        rt,
         b"  a slot in two columns           ",
         with_heads([0, 1, 7, 7]),
-    );
-    damaged(b"  a free slot in a column         ", with_free(2));
-    damaged(b"  a slot in no chain              ", with_free(NONE));
+    )?;
+    damaged(rt, b"  a free slot in a column         ", with_free(2))?;
+    damaged(rt, b"  a slot in no chain              ", with_free(NONE))?;
     damaged(
+        rt,
         b"  a head names no slot            ",
         with_heads([0, 4, 7, 7]),
-    );
+    )?;
     damaged(
+        rt,
         b"  a next names no slot            ",
         with_nexts([1, 4, NONE, NONE]),
-    );
+    )?;
     damaged(
+        rt,
         b"  a floor above its ceiling       ",
         with_floors([6, 7, 1, 0]),
-    );
+    )?;
     damaged(
+        rt,
         b"  two spans share a height        ",
         with_ceilings([7, 9, 1, 0]),
-    );
+    )?;
     damaged(
+        rt,
         b"  a column does not ascend        ",
         with_floors([2, 0, 1, 0]),
-    );
+    )
 }

@@ -4,13 +4,14 @@
 use field::Span;
 use grid::{Corner, Grid};
 use rerecast::{Reply, heightfield};
+use std::io;
 
 mod damage;
 
 ghost use Rattle.std.specs.Prelude.{◌≡◌, ◌≤◌, length};
 
 // All that is lent: of the slots the first few. The grid has two columns, so the last two heads are past what is needed.
-#[derive(Drop)]
+#[derive(Clone, Copy)]
 pub(crate) struct Store {
     pub(crate) slots: usize,
     pub(crate) heads: [u32; 4],
@@ -23,18 +24,18 @@ pub(crate) struct Store {
 }
 
 // What a call answered and left.
-#[derive(Drop)]
+#[derive(Clone, Copy)]
 struct Ran {
     reply: Reply,
     store: Store,
 }
 
-pub(crate) fn say(s: &[u8]) {
-    io::write_all(1, s);
+pub(crate) fn say(rt: &impl Print, s: &[u8]) -> io::Result<()> {
+    rt.write_all(s)
 }
 
-fn say_number(n: u64) {
-    io::print_decimal(1, n);
+fn say_number(rt: &impl Print, n: u64) -> io::Result<()> {
+    rt.print(n)
 }
 
 fn number(r: Reply) -> u64 {
@@ -210,165 +211,194 @@ fn same_spans(a: Store, b: Store) -> bool {
     heights && same_bytes(areas, areas_before)
 }
 
-fn say_span(floor: u16, ceiling: u16, area: u8) {
-    say(b" [");
-    say_number(floor as u64);
-    say(b",");
-    say_number(ceiling as u64);
-    say(b"] area ");
-    say_number(area as u64);
+fn say_span(rt: &impl Print, floor: u16, ceiling: u16, area: u8) -> io::Result<()> {
+    say(rt, b" [")?;
+    say_number(rt, floor as u64)?;
+    say(rt, b",")?;
+    say_number(rt, ceiling as u64)?;
+    say(rt, b"] area ")?;
+    say_number(rt, area as u64)
 }
 
 // The spans of a chain, of at most four slots.
-fn say_chain(s: Store, head: u32) {
+fn say_chain(rt: &impl Print, s: Store, head: u32) -> io::Result<()> {
     let mut at = head;
     let mut k: usize = 0;
     while k < 4 {
         if at >= 4 {
-            return;
+            return Ok(());
         }
         let i = at as usize;
         let floors = s.floors;
         let ceilings = s.ceilings;
         let areas = s.areas;
         let nexts = s.nexts;
-        say_span(floors[i], ceilings[i], areas[i]);
+        say_span(rt, floors[i], ceilings[i], areas[i])?;
         at = nexts[i];
         k += 1;
     }
+    Ok(())
 }
 
-fn say_left(before: Store, after: Store) {
+fn say_left(rt: &impl Print, before: Store, after: Store) -> io::Result<()> {
     if same_field(before, after) {
-        say(b"  nothing changed");
-        return;
+        return say(rt, b"  nothing changed");
     }
     let heads = after.heads;
-    say(b"  column 0:");
-    say_chain(after, heads[0]);
-    say(b"; column 1:");
-    say_chain(after, heads[1]);
+    say(rt, b"  column 0:")?;
+    say_chain(rt, after, heads[0])?;
+    say(rt, b"; column 1:")?;
+    say_chain(rt, after, heads[1])
 }
 
-fn say_marks(s: Store) {
+fn say_marks(rt: &impl Print, s: Store) -> io::Result<()> {
     let marks = s.marks;
-    say(b"; marks ");
-    say_number(marks[0] as u64);
-    say_number(marks[1] as u64);
-    say_number(marks[2] as u64);
-    say_number(marks[3] as u64);
-    say(b"\n");
+    say(rt, b"; marks ")?;
+    say_number(rt, marks[0] as u64)?;
+    say_number(rt, marks[1] as u64)?;
+    say_number(rt, marks[2] as u64)?;
+    say_number(rt, marks[3] as u64)?;
+    say(rt, b"\n")
 }
 
 // One line of the table; the store goes on.
-fn row(name: &[u8], before: Store, ran: Ran) -> Store {
+fn row(rt: &impl Print, name: &[u8], before: Store, ran: Ran) -> io::Result<Store> {
     let reply = ran.reply;
     let after = ran.store;
-    say(name);
-    say_number(number(reply));
-    say_left(before, after);
-    say_marks(after);
-    after
+    say(rt, name)?;
+    say_number(rt, number(reply))?;
+    say_left(rt, before, after)?;
+    say_marks(rt, after)?;
+    Ok(after)
 }
 
-fn try_fresh(name: &[u8], s: Store, grid: Grid) -> Store {
-    row(name, s, fresh(s, grid))
+fn try_fresh(rt: &impl Print, name: &[u8], s: Store, grid: Grid) -> io::Result<Store> {
+    row(rt, name, s, fresh(s, grid))
 }
 
-pub(crate) fn try_add(name: &[u8], s: Store, x: u32, z: u32, floor: u16, ceiling: u16) -> Store {
+pub(crate) fn try_add(
+    rt: &impl Print,
+    name: &[u8],
+    s: Store,
+    x: u32,
+    z: u32,
+    floor: u16,
+    ceiling: u16,
+) -> io::Result<Store> {
     let span = Span {
         floor,
         ceiling,
         area: Span::DEFAULT_WALKABLE,
     };
-    row(name, s, add(s, two_cells(), x, z, span))
+    row(rt, name, s, add(s, two_cells(), x, z, span))
 }
 
 // Two slots and two columns: the store fills, refuses what shares no height, and takes what does.
-fn full_store() {
-    say(b"a store of two slots\n");
+fn full_store(rt: &impl Print) -> io::Result<()> {
+    say(rt, b"a store of two slots\n")?;
     let a = try_fresh(
+        rt,
         b"  fresh                           ",
         untouched(2),
         two_cells(),
-    );
-    let b = try_add(b"  [2,5] at 0,0                    ", a, 0, 0, 2, 5);
-    let c = try_add(b"  [7,9] at 1,0                    ", b, 1, 0, 7, 9);
-    let d = try_add(b"  [6,7] at 0,0, the store is full ", c, 0, 0, 6, 7);
-    let e = try_add(b"  [5,7] at 0,0 shares a height    ", d, 0, 0, 5, 7);
-    let f = try_add(b"  [0,1] at 1,0, the store is full ", e, 1, 0, 0, 1);
+    )?;
+    let b = try_add(rt, b"  [2,5] at 0,0                    ", a, 0, 0, 2, 5)?;
+    let c = try_add(rt, b"  [7,9] at 1,0                    ", b, 1, 0, 7, 9)?;
+    let d = try_add(rt, b"  [6,7] at 0,0, the store is full ", c, 0, 0, 6, 7)?;
+    let e = try_add(rt, b"  [5,7] at 0,0 shares a height    ", d, 0, 0, 5, 7)?;
+    let f = try_add(rt, b"  [0,1] at 1,0, the store is full ", e, 1, 0, 0, 1)?;
     try_add(
+        rt,
         b"  [0,65535] at 1,0 swallows all   ",
         f,
         1,
         0,
         0,
         Span::MAX_HEIGHT,
-    );
+    )?;
+    Ok(())
 }
 
-fn one_slot() {
-    say(b"a store of one slot\n");
+fn one_slot(rt: &impl Print) -> io::Result<()> {
+    say(rt, b"a store of one slot\n")?;
     let a = try_fresh(
+        rt,
         b"  fresh                           ",
         untouched(1),
         two_cells(),
-    );
-    let b = try_add(b"  [2,5] at 0,0                    ", a, 0, 0, 2, 5);
-    let c = try_add(b"  [6,7] at 0,0                    ", b, 0, 0, 6, 7);
-    try_add(b"  [5,7] at 0,0                    ", c, 0, 0, 5, 7);
+    )?;
+    let b = try_add(rt, b"  [2,5] at 0,0                    ", a, 0, 0, 2, 5)?;
+    let c = try_add(rt, b"  [6,7] at 0,0                    ", b, 0, 0, 6, 7)?;
+    try_add(rt, b"  [5,7] at 0,0                    ", c, 0, 0, 5, 7)?;
+    Ok(())
 }
 
 // Places off the grid, where the flat column number would still be a column.
-fn refused_spans() {
-    say(b"spans that are refused\n");
+fn refused_spans(rt: &impl Print) -> io::Result<()> {
+    say(rt, b"spans that are refused\n")?;
     let a = fresh(untouched(3), two_cells());
-    let b = try_add(b"  [2,5] at 2,0, past the width    ", a.store, 2, 0, 2, 5);
-    let c = try_add(b"  [2,5] at 0,1, past the height   ", b, 0, 1, 2, 5);
-    try_add(b"  [5,4] at 0,0, floor above       ", c, 0, 0, 5, 4);
+    let b = try_add(
+        rt,
+        b"  [2,5] at 2,0, past the width    ",
+        a.store,
+        2,
+        0,
+        2,
+        5,
+    )?;
+    let c = try_add(rt, b"  [2,5] at 0,1, past the height   ", b, 0, 1, 2, 5)?;
+    try_add(rt, b"  [5,4] at 0,0, floor above       ", c, 0, 0, 5, 4)?;
+    Ok(())
 }
 
-fn refused_stores() {
-    say(b"stores and grids that do not fit\n");
+fn refused_stores(rt: &impl Print) -> io::Result<()> {
+    say(rt, b"stores and grids that do not fit\n")?;
     try_fresh(
+        rt,
         b"  fresh, no slots                 ",
         untouched(0),
         two_cells(),
-    );
+    )?;
     try_fresh(
+        rt,
         b"  fresh, five columns, four heads ",
         untouched(4),
         cells(5.0, 8.0, 1.0),
-    );
+    )?;
     try_fresh(
+        rt,
         b"  fresh, width 0                  ",
         untouched(4),
         cells(0.0, 8.0, 1.0),
-    );
+    )?;
     try_fresh(
+        rt,
         b"  fresh, a box upside down        ",
         untouched(4),
         cells(2.0, -1.0, 1.0),
-    );
+    )?;
     try_fresh(
+        rt,
         b"  fresh, cell size 0              ",
         untouched(4),
         cells(2.0, 8.0, 0.0),
-    );
+    )?;
     try_add(
+        rt,
         b"  a span into a store never made  ",
         untouched(4),
         0,
         0,
         2,
         5,
-    );
+    )?;
+    Ok(())
 }
 
-fn main() {
-    full_store();
-    one_slot();
-    refused_spans();
-    refused_stores();
-    damage::damaged_fields();
+fn main(rt: HostRuntime) -> io::Result<()> {
+    full_store(&rt)?;
+    one_slot(&rt)?;
+    refused_spans(&rt)?;
+    refused_stores(&rt)?;
+    damage::damaged_fields(&rt)
 }

@@ -3,6 +3,7 @@ use crate::show::{say, say_area, say_number, say_reply, say_word};
 use field::NONE;
 use grid::{Corner, Grid};
 use rerecast::{compact_heightfield, heightfield, pre_filter, rasterize};
+use std::io;
 
 fn corner(x: f32, y: f32, z: f32) -> Corner {
     Corner { x, y, z }
@@ -18,7 +19,7 @@ fn cells(x: f32, y: f32, z: f32) -> Grid {
 }
 
 // The centre of nine columns of one span each, after the filter for ledges; walkable height 2.
-fn try_ledge(name: &[u8], west: u16, east: u16, climb: u16) {
+fn try_ledge(rt: &impl Print, name: &[u8], west: u16, east: u16, climb: u16) -> io::Result<()> {
     let heads: [u32; 9] = [0, 1, 2, 3, 4, 5, 6, 7, 8];
     let floors = [0u16; 9];
     let ceilings: [u16; 9] = [10, 10, 10, west, 10, east, 10, 10, 10];
@@ -37,40 +38,44 @@ fn try_ledge(name: &[u8], west: u16, east: u16, climb: u16) {
         2,
         climb,
     );
-    say(name);
-    say_reply(reply);
-    say(b": centre ");
-    say_area(areas[4]);
-    say(b", corner ");
-    say_area(areas[0]);
-    say(b"\n");
+    say(rt, name)?;
+    say_reply(rt, reply)?;
+    say(rt, b": centre ")?;
+    say_area(rt, areas[4])?;
+    say(rt, b", corner ")?;
+    say_area(rt, areas[0])?;
+    say(rt, b"\n")
 }
 
-pub(crate) fn ledges() {
+pub(crate) fn ledges(rt: &impl Print) -> io::Result<()> {
     try_ledge(
+        rt,
         b"3 x 3 of [0,10], climb 5     0: only the centre stays        ",
         10,
         10,
         5,
-    );
+    )?;
     try_ledge(
+        rt,
         b"east [0,5], climb 5          0: the centre stays             ",
         10,
         5,
         5,
-    );
+    )?;
     try_ledge(
+        rt,
         b"east [0,5], climb 4          0: cleared                      ",
         10,
         5,
         4,
-    );
+    )?;
     try_ledge(
+        rt,
         b"east [0,5], west [0,12]      0: cleared                      ",
         12,
         5,
         5,
-    );
+    )
 }
 
 // Is there a span in a column?
@@ -78,7 +83,7 @@ fn held(head: u32) -> u64 {
     if head == NONE { 0 } else { 1 }
 }
 
-pub(crate) fn sliver() {
+pub(crate) fn sliver(rt: &impl Print) -> io::Result<()> {
     let grid = cells(4.0, 8.0, 4.0);
     let mut heads = [NONE; 16];
     let mut free: u32 = 0;
@@ -102,15 +107,18 @@ pub(crate) fn sliver() {
         255,
         1,
     );
-    say(b"a sliver left of the grid    0: 0 spans in column 0 0        ");
-    say_reply(reply);
-    say(b": ");
-    say_number(held(heads[0]));
-    say(b" spans\n");
+    say(
+        rt,
+        b"a sliver left of the grid    0: 0 spans in column 0 0        ",
+    )?;
+    say_reply(rt, reply)?;
+    say(rt, b": ")?;
+    say_number(rt, held(heads[0]))?;
+    say(rt, b" spans\n")
 }
 
 // Two columns with a floor each, level with one another: the links of the first in all directions.
-fn try_tall(name: &[u8], walkable_height: u16) {
+fn try_tall(rt: &impl Print, name: &[u8], walkable_height: u16) -> io::Result<()> {
     let heads: [u32; 2] = [0, 1];
     let floors = [0u16; 2];
     let ceilings = [1u16; 2];
@@ -139,20 +147,22 @@ fn try_tall(name: &[u8], walkable_height: u16) {
         walkable_height,
         1,
     );
-    say(name);
-    say_reply(reply);
-    say(b": ");
-    say_word(data[0]);
-    say(b"\n");
+    say(rt, name)?;
+    say_reply(rt, reply)?;
+    say(rt, b": ")?;
+    say_word(rt, data[0])?;
+    say(rt, b"\n")
 }
 
-pub(crate) fn tall_agent() {
+pub(crate) fn tall_agent(rt: &impl Print) -> io::Result<()> {
     try_tall(
+        rt,
         b"walkable height 255          0: 4294709247, a link to 0      ",
         255,
-    );
+    )?;
     try_tall(
+        rt,
         b"walkable height 256          0: 4294967295, no links         ",
         256,
-    );
+    )
 }
