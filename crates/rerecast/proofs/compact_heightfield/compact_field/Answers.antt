@@ -30,19 +30,24 @@ pub returns-then-not-room : goal.returns-then-not-room
 returns-then-not-room c =
     λ free marks K.
     let s = c.args in
+    let S = store s.heads.now (slots free s.floors.now s.ceilings.now s.areas.now s.nexts.now) marks in
     let f = K.0 in
     let H = K.1 in
-    let k = total-told c.tally_columns-tally.result (cells (columns_of f)) (c.tally_columns-tally.ensures free s.floors.now s.ceilings.now f (rw c.columns_of-n.ensures H)) c.in-Total.is in
-    ends-short s.width s.height s.top s.tall s.climb (store s.heads.now (slots free s.floors.now s.ceilings.now s.areas.now s.nexts.now) marks) (result_of s.cell_indices.now s.cell_counts.now (rows s.ys.now s.«data».now s.span_areas.now)) f H k.0
-    (λ r. says-false {P = Fits3 c.in-Total.total s.ys.now s.«data».now s.span_areas.now} c.has_room-room.result (ap not c.if-not-room.true) c.has_room-room.ensures (rw k.1 (r.ys, r.words, r.areas)))
+    let T = c.tally_columns-tally.ensures free s.floors.now s.ceilings.now f (rw c.columns_of-n.ensures H) in
+    let k = total-told c.tally_columns-tally.result (cells (columns_of f)) T c.in-Total.is in
+    let P = Fits3 c.in-Total.total s.ys.now s.«data».now s.span_areas.now in
+    let no = says-false {P = P} c.has_room-room.result (ap not c.if-not-room.true) c.has_room-room.ensures in
+    ends-short s.width s.height s.top s.tall s.climb S _ f H k.0 (λ r. no (rw k.1 (r.ys, r.words, r.areas)))
 
 pub returns : goal.returns
 returns c =
     λ free marks K.
     let s = c.args in
+    let S = store s.heads.now (slots free s.floors.now s.ceilings.now s.areas.now s.nexts.now) marks in
     let f = K.0 in
     let H = K.1 in
-    let k = total-told c.tally_columns-tally.result (cells (columns_of f)) (c.tally_columns-tally.ensures free s.floors.now s.ceilings.now f (rw c.columns_of-n.ensures H)) c.in-Total.is in
+    let T = c.tally_columns-tally.ensures free s.floors.now s.ceilings.now f (rw c.columns_of-n.ensures H) in
+    let k = total-told c.tally_columns-tally.result (cells (columns_of f)) T c.in-Total.is in
     let r = room c.has_room-room.result s.ys.now s.«data».now s.span_areas.now c.if-not-room.false c.has_room-room.ensures k.1 in
     let d = rw (c.index.ensures, c.index-2.ensures) at (c.complete_columns-layer.ensures free f (rw c.columns_of-n.ensures H) r) in
-    ends-complete s.width s.height s.top s.tall s.climb (store s.heads.now (slots free s.floors.now s.ceilings.now s.areas.now s.nexts.now) marks) (result_of s.cell_indices.now s.cell_counts.now (rows s.ys.now s.«data».now s.span_areas.now)) f H k.0 r c.reply_of.ensures d.0 d.1
+    ends-complete s.width s.height s.top s.tall s.climb S _ f H k.0 r c.reply_of.ensures d.0 d.1

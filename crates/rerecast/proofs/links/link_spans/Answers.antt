@@ -57,7 +57,8 @@ loop-l-preserved c =
           (ap height_of w ∙ word-height (passes s.tall s.climb) (around s.width s.depth cs s.column) o refl ∙ sym (ap (λ (q : Open). q.height) eo))
           (c.greater_layer-most.ensures ∙ ap (max c.loop-l.most) m)),
       λ y h.
-          left-on s.tall s.climb _ y s.ys.now c.loop-l.«data» s.«data».now (h c.loop-l.l (omega arith)) (λ x. sym ((p.3 g.0 g.1 g.2).heights x)) (sides_of c.around_column-sides.result) (cursors_of c.bind-b.result.cursors) c.bind-b.ensures.2,
+          left-on s.tall s.climb _ y s.ys.now c.loop-l.«data» s.«data».now (h c.loop-l.l (omega arith)) (λ x. sym ((p.3 g.0 g.1 g.2).heights x))
+          (sides_of c.around_column-sides.result) (cursors_of c.bind-b.result.cursors) c.bind-b.ensures.2,
     )
 
 pub returns : goal.returns
