@@ -26,6 +26,16 @@ room r ys ws ar {n} t h e =
     let p = says-true {P = Fits3 n ys ws ar} r (ap not t) h in
     record { ys = omega (arith, e, p.0); words = omega (arith, e, p.1); areas = omega (arith, e, p.2) }
 
+pub returns-in_default : goal.returns-in_default
+returns-in_default c =
+    λ free marks K.
+    let s = c.args in
+    let S = store s.heads.now (slots free s.floors.now s.ceilings.now s.areas.now s.nexts.now) marks in
+    let f = K.0 in
+    let H = K.1 in
+    let T = c.tally_columns-tally.ensures free s.floors.now s.ceilings.now f (rw c.columns_of-n.ensures H) in
+    ends-crowded s.width s.height s.top s.tall s.climb S _ f H (crowded-told c.tally_columns-tally.result (cells (columns_of f)) T c.in_default.is)
+
 pub returns-then-not-room : goal.returns-then-not-room
 returns-then-not-room c =
     λ free marks K.
@@ -38,6 +48,16 @@ returns-then-not-room c =
     let P = Fits3 c.in-Total.total s.ys.now s.«data».now s.span_areas.now in
     let no = says-false {P = P} c.has_room-room.result (ap not c.if-not-room.true) c.has_room-room.ensures in
     ends-short s.width s.height s.top s.tall s.climb S _ f H k.0 (λ r. no (rw k.1 (r.ys, r.words, r.areas)))
+
+pub complete_columns-layer-requires-clause-by_index : goal.complete_columns-layer-requires-clause-by_index
+complete_columns-layer-requires-clause-by_index c =
+    let s = c.args in
+    let g = c.requires.by_index in
+    let f = g.1.0 in
+    let T = c.tally_columns-tally.ensures g.0 s.floors.now s.ceilings.now f (rw c.columns_of-n.ensures g.1.1) in
+    let k = total-told c.tally_columns-tally.result (cells (columns_of f)) T c.in-Total.is in
+    let r = room c.has_room-room.result s.ys.now s.«data».now s.span_areas.now c.if-not-room.false c.has_room-room.ensures k.1 in
+    (g.0, f, rw c.columns_of-n.ensures g.1.1, k.0, r)
 
 pub returns : goal.returns
 returns c =
