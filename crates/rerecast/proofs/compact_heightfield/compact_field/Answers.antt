@@ -1,17 +1,15 @@
 -- The tally, the room and the complete result_of, each an end of the call.
-use Prim.Native.Nat.{ℕ, ◌≤◌, ◌*◌}
-use mathlib.Core.Path.{◌≡◌, sym, ap}
+use Prim.Native.Nat.{ℕ, ◌≤◌}
+use mathlib.Core.Path.{◌≡◌, ap}
 use mathlib.Core.Bool.{Bool, true, not}
-use mathlib.Core.List.{List, flatten}
-use lib.ListN.{length, take}
-use lib.Seq.{length-take-le}
+use mathlib.Core.List.{List}
+use lib.ListN.{length}
 use native.Mathlib.Omega.{arith}
 use Rattle.field.specs.Slots.{slots}
-use Rattle.field.specs.Field.{Field, Holds}
 use Rattle.field.specs.Store.{store}
 use Rattle.field.specs.Open.{columns_of, cells}
 use Rattle.field.specs.Inner.{Says}
-use Rattle.field.specs.Compact.{rows, result_of, Room, Few}
+use Rattle.field.specs.Compact.{rows, Room}
 use Rattle.field.proofs.Basics.{says-true, says-false}
 use Rattle.rerecast.proofs.CompactCall.{total-told, crowded-told, ends-crowded, ends-short, ends-complete}
 use Rattle.rerecast.proofs.compact_heightfield.compact_field.Goals as goal

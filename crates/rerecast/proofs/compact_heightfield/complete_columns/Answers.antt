@@ -1,5 +1,5 @@
 -- What `fill_columns` stored is there to be read, so `link_columns` may link it; the words over what was stored complete the result.
-use Prim.Native.Nat.{ℕ, ◌≤◌, ◌*◌}
+use Prim.Native.Nat.{ℕ, ◌≤◌}
 use mathlib.Core.Path.{◌≡◌, ◌∙◌}
 use mathlib.Core.List.{List, flatten}
 use lib.ListN.{length}

@@ -1,10 +1,7 @@
 -- The loop's invariant: what is counted, and what is left of the column, make the count of the whole. The column gets shorter.
-use Prim.Native.Nat.{◌≤◌, ◌<◌}
-use lib.ListN.{length}
 use native.Mathlib.Omega.{arith}
-use Rattle.field.specs.Slots.{none}
 use Rattle.field.proofs.Chains.{chain-cons, chain-less}
-use Rattle.field.proofs.Tallying.{tallying-start, tallying-slot, tallying-step, tallying-end}
+use Rattle.field.proofs.Tallying.{tallying-slot, tallying-step, tallying-end}
 use Rattle.rerecast.proofs.compact_heightfield.count_column.Goals as goal
 
 pub bounds-areas-i : goal.bounds-areas-i

@@ -1,8 +1,7 @@
 -- The loop's invariant: the open spaces left of the column end as all of it would. The column gets shorter.
-use Prim.Native.Nat.{ℕ, ◌≤◌, ◌<◌}
+use Prim.Native.Nat.{ℕ}
 use mathlib.Core.Path.{◌≡◌, sym, ◌∙◌}
 use mathlib.Core.List.{List, map}
-use lib.ListN.{length, get_or}
 use native.Mathlib.Omega.{arith}
 use Rattle.field.specs.Slots.{Contents, contents, span_at}
 use Rattle.field.specs.Inner.{Chain}
@@ -10,7 +9,7 @@ use Rattle.field.specs.FilterCode.{roof_at}
 use Rattle.field.specs.Walkable.{roof}
 use Rattle.field.proofs.Chains.{chain-cons, chain-less}
 use Rattle.field.proofs.Upward.{roof-of}
-use Rattle.field.proofs.Laying.{laying-start, laying-slot, laying-roof, laying-room, laying-under, laying-step, laying-end}
+use Rattle.field.proofs.Laying.{laying-slot, laying-roof, laying-room, laying-under, laying-step, laying-end}
 use Rattle.rerecast.proofs.compact_heightfield.fill_column.Goals as goal
 
 -- a top that is read where the slots go on is the roof that they make

@@ -1,9 +1,7 @@
 -- The tests of every call, and past them the compact result_of.
-use Rattle.field.specs.Slots.{slots}
-use Rattle.field.specs.Store.{Store, store}
-use Rattle.field.specs.Compact.{Result, rows, result_of}
-use Rattle.rerecast.proofs.Admitted.{call-granted, call-refused, call-ready}
-use Rattle.rerecast.proofs.CompactCall.{compacted-refused, field-ready, compacted-field}
+use Rattle.field.specs.Compact.{rows, result_of}
+use Rattle.rerecast.proofs.Admitted.{call-granted, call-ready}
+use Rattle.rerecast.proofs.CompactCall.{field-ready, compacted-field}
 use Rattle.rerecast.proofs.compact_heightfield.into_compact.Goals as goal
 
 pub compact_field-requires-clause-height_in_bounds : goal.compact_field-requires-clause-height_in_bounds

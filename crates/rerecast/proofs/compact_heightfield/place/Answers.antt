@@ -1,13 +1,7 @@
 -- A walkable span takes one place of each row, and one more count; any other takes none.
-use Prim.Native.Nat.{◌≤◌, ◌+◌}
-use mathlib.Core.Path.{sym, ◌∙◌}
-use native.Mathlib.Nat.{add-zero}
-use native.Mathlib.Omega.{arith}
-use borrow.Author.Tests.{eq-eqb, ne_eqb}
-use lib.ListN.{get_or}
+use mathlib.Core.Path.{◌∙◌}
+use borrow.Author.Tests.{ne_eqb}
 use Rattle.compact_span.specs.Span.{fresh_span}
-use Rattle.field.specs.Compact.{Room, rows}
-use Rattle.field.proofs.Laying.{raised-none}
 use Rattle.rerecast.proofs.Compacting.{raised-once}
 use Rattle.rerecast.proofs.compact_heightfield.place.Goals as goal
 

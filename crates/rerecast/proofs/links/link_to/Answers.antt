@@ -1,16 +1,11 @@
 -- The first layer that is not behind is the link, if it passes and a link may go to it. Where none does, and there are layers from 63 on, the largest of those
 -- that passes is missed.
-use mathlib.Core.Path.{◌≡◌}
 use mathlib.Core.Bool.{Bool}
 use native.Mathlib.Omega.{arith}
-use Prim.Native.Nat.{◌≤◌}
 use borrow.Author.Tests.{not-true, not-false}
-use Rattle.compact_span.specs.Word.{empty_mark}
 use Rattle.field.specs.Open.{Open, space}
-use Rattle.field.specs.Links.{passes, link}
-use Rattle.field.specs.Rowing.{shown}
+use Rattle.field.specs.Links.{passes}
 use Rattle.field.proofs.Layers.{link-first, link-none, missed-linked, missed-shown, missed-none}
-use Rattle.rerecast.specs.Compacting.{Left}
 use Rattle.rerecast.proofs.LinkCursors.{none_below, none_at_all}
 use Rattle.rerecast.proofs.links.link_to.Goals as goal
 

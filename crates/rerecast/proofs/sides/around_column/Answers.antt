@@ -1,7 +1,4 @@
 -- Each side is the cell of the column beside, as the rule names it.
-use Prim.Native.Nat.{◌<◌, ◌%◌, ◌/◌}
-use native.Mathlib.Omega.{arith}
-use Rattle.field.proofs.Beside.{place}
 use Rattle.rerecast.proofs.Compacting.{side-is}
 use Rattle.rerecast.proofs.sides.around_column.Goals as goal
 
