@@ -16,9 +16,9 @@ use Rattle.field.proofs.Sides.{completed}
 use Rattle.rerecast.proofs.compact_heightfield.complete_columns.Goals as goal
 
 -- what was filled is there to be read
-module _ {n : ℕ} {heads : List ℕ} {s : Slots} {f : Field} {t t' : Result} (H : Holds heads s f) where
-  there : (length heads ≡ n) × (n ≤ 1048576) × (length heads ≤ length t.indices) × (length heads ≤ length t.counts) → Filled (columns_of f) t t' → Room (length (flatten (cells (columns_of f)))) t.rows → Shown (cells (columns_of f)) t'.indices t'.counts t'.rows.ys t'.rows.words
-  there p F r =
+module _ {n : ℕ} {heads : List ℕ} {s : Slots} {f : Field} {t t' : Result} (H : Holds heads s f) (F : Filled (columns_of f) t t') where
+  there : (length heads ≡ n) × (n ≤ 1048576) × (length heads ≤ length t.indices) × (length heads ≤ length t.counts) → Room (length (flatten (cells (columns_of f)))) t.rows → Shown (cells (columns_of f)) t'.indices t'.counts t'.rows.ys t'.rows.words
+  there p r =
       let e = cells_wide H in
       shown_of F r (omega (arith, e, p.2)) (omega (arith, e, p.3)) (omega (arith, e, p.0, p.1)) (λ i l. column-ascends H i (omega (arith, columns-wide H)))
 
@@ -26,7 +26,7 @@ pub link_columns-requires-clause-cs_len : goal.link_columns-requires-clause-cs_l
 link_columns-requires-clause-cs_len c =
     let p = c.requires.heads_len in
     let g = c.requires.by_index in
-    (cells (columns_of g.1), cells_wide g.2 ∙ p.0, there g.2 p (c.fill_columns.ensures g.0 g.1 g.2) g.4)
+    (cells (columns_of g.1), cells_wide g.2 ∙ p.0, there g.2 (c.fill_columns.ensures g.0 g.1 g.2) p g.4)
 
 pub returns : goal.returns
 returns c =
@@ -34,5 +34,5 @@ returns c =
     let s = c.args in
     let p = c.requires.heads_len in
     let F = c.fill_columns.ensures free f H in
-    let k = c.link_columns.ensures (cells (columns_of f)) (cells_wide H ∙ p.0) (there H p F r) in
+    let k = c.link_columns.ensures (cells (columns_of f)) (cells_wide H ∙ p.0) (there H F p r) in
     (k.1, completed (passes s.tall s.climb) s.width s.depth (columns_of f) F k.0)

@@ -6,17 +6,21 @@ use borrow.Author.Tests.{not-true, not-false}
 use Rattle.field.specs.Open.{Open, space}
 use Rattle.field.specs.Links.{passes}
 use Rattle.field.proofs.Layers.{link-first, link-none, missed-linked, missed-shown, missed-none}
+use Rattle.rerecast.specs.declared.links.Post.{Post}
 use Rattle.rerecast.proofs.LinkCursors.{none_below, none_at_all}
 use Rattle.rerecast.proofs.links.link_to.Goals as goal
+
+-- to which open spaces whoever stands there passes
+abbrev pass : Post → Open → Bool
+pass q = passes q.tall q.climb (space q.y q.height 0)
 
 pub returns-then-not-look : goal.returns-then-not-look
 returns-then-not-look c =
     let s = c.args in
     let L = c.look_up-look.ensures in
-    let pass : Open → Bool = passes s.q.tall s.q.climb (space s.q.y s.q.height 0) in
     let none = none_at_all L (not-true _ c.if-not-look.true) in (
-      link-none s.ys.now s.«data».now s.side.first s.side.count pass (λ j a b. none j a (omega arith)),
-      missed-none s.ys.now s.«data».now s.side.first s.side.count pass none,
+      link-none s.ys.now s.«data».now s.side.first s.side.count (pass s.q) (λ j a b. none j a (omega arith)),
+      missed-none s.ys.now s.«data».now s.side.first s.side.count (pass s.q) none,
       record { few = L.few; behind = L.behind },
     )
 
@@ -24,10 +28,9 @@ pub returns-then-from-lt62 : goal.returns-then-from-lt62
 returns-then-from-lt62 c =
     let s = c.args in
     let L = c.look_up-look.ensures in
-    let pass : Open → Bool = passes s.q.tall s.q.climb (space s.q.y s.q.height 0) in
     let hit = L.hit (not-false _ c.if-not-look.false) in
-    let e = link-first s.ys.now s.«data».now s.side.first s.side.count pass c.look_up-look.result.at hit.0 c.if-from-lt62.true (none_below L) hit.1 in
-    (e, missed-linked s.ys.now s.«data».now s.side.first s.side.count pass e c.if-from-lt62.true, record { few = L.few; behind = L.behind })
+    let e = link-first s.ys.now s.«data».now s.side.first s.side.count (pass s.q) c.look_up-look.result.at hit.0 c.if-from-lt62.true (none_below L) hit.1 in
+    (e, missed-linked s.ys.now s.«data».now s.side.first s.side.count (pass s.q) e c.if-from-lt62.true, record { few = L.few; behind = L.behind })
 
 pub largest_layer-missed-requires : goal.largest_layer-missed-requires
 largest_layer-missed-requires c =
@@ -41,7 +44,6 @@ returns c =
     let s = c.args in
     let L = c.look_up-look.ensures in
     let hit = L.hit (not-false _ c.if-not-look.false) in
-    let pass : Open → Bool = passes s.q.tall s.q.climb (space s.q.y s.q.height 0) in
-    let e = link-none s.ys.now s.«data».now s.side.first s.side.count pass (λ j a b. none_below L j a (omega (arith, c.if-from-lt62.false))) in
-    let m = missed-shown s.ys.now s.«data».now s.side.first s.side.count pass e (omega (arith, c.if-from-lt62.false, hit.0)) c.largest_layer-missed.ensures in
+    let e = link-none s.ys.now s.«data».now s.side.first s.side.count (pass s.q) (λ j a b. none_below L j a (omega (arith, c.if-from-lt62.false))) in
+    let m = missed-shown s.ys.now s.«data».now s.side.first s.side.count (pass s.q) e (omega (arith, c.if-from-lt62.false, hit.0)) c.largest_layer-missed.ensures in
     (e, m, record { few = L.few; behind = L.behind })
