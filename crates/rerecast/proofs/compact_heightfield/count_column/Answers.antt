@@ -1,35 +1,17 @@
 -- The loop's invariant: what is counted, and what is left of the column, make the count of the whole. The column gets shorter.
-use Prim.Native.Nat.{◌≤◌, ◌<◌}
-use lib.ListN.{length}
 use native.Mathlib.Omega.{arith}
-use Rattle.field.specs.Slots.{none}
 use Rattle.field.proofs.Chains.{chain-cons, chain-less}
-use Rattle.field.proofs.Tallying.{tallying-start, tallying-slot, tallying-step, tallying-end}
+use Rattle.field.proofs.Tallying.{tallying-slot, tallying-step, tallying-end}
 use Rattle.rerecast.proofs.compact_heightfield.count_column.Goals as goal
-use Rattle.rerecast.proofs.compact_heightfield.count_column.Goals.{In-loop-at}
-
-pub loop-at-init : goal.loop-at-init
-loop-at-init c = tallying-start c.requires.by_index.0 c.requires.areas_len c.requires.by_index.1
 
 pub bounds-areas-i : goal.bounds-areas-i
-bounds-areas-i c =
-    let slot : (c.loop-at.at < length c.args.nexts.now) × (length c.args.nexts.now ≤ none) × (c.loop-at.n < none) = tallying-slot c.loop-at.invariant c.loop-at-test.true in
-    omega (arith, slot, c.loop-at.invariant.sizes)
-
-pub one_more-n-requires : goal.one_more-n-requires
-one_more-n-requires c =
-    let slot : (c.loop-at.at < length c.args.nexts.now) × (length c.args.nexts.now ≤ none) × (c.loop-at.n < none) = tallying-slot c.loop-at.invariant c.loop-at-test.true in
-    (slot).2
+bounds-areas-i c = omega (arith, tallying-slot c.loop-at.invariant c.loop-at-test.true, c.loop-at.invariant.sizes)
 
 pub offset_bounds-nexts-i : goal.offset_bounds-nexts-i
-offset_bounds-nexts-i c =
-    let slot : (c.loop-at.at < length c.args.nexts.now) × (length c.args.nexts.now ≤ none) × (c.loop-at.n < none) = tallying-slot c.loop-at.invariant c.loop-at-test.true in
-    omega (arith, slot)
+offset_bounds-nexts-i c = omega (arith, tallying-slot c.loop-at.invariant c.loop-at-test.true)
 
 pub bounds-nexts-i : goal.bounds-nexts-i
-bounds-nexts-i c =
-    let slot : (c.loop-at.at < length c.args.nexts.now) × (length c.args.nexts.now ≤ none) × (c.loop-at.n < none) = tallying-slot c.loop-at.invariant c.loop-at-test.true in
-    omega (arith, slot)
+bounds-nexts-i c = omega (arith, tallying-slot c.loop-at.invariant c.loop-at-test.true)
 
 pub loop-at-smaller : goal.loop-at-smaller
 loop-at-smaller c =

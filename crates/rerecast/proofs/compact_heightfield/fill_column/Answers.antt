@@ -1,32 +1,26 @@
 -- The loop's invariant: the open spaces left of the column end as all of it would. The column gets shorter.
-use Prim.Native.Nat.{ℕ, ◌≤◌, ◌<◌}
+use Prim.Native.Nat.{ℕ}
 use mathlib.Core.Path.{◌≡◌, sym, ◌∙◌}
 use mathlib.Core.List.{List, map}
-use lib.ListN.{length, get_or}
 use native.Mathlib.Omega.{arith}
-use Rattle.field.specs.Slots.{none, contents, span_at}
+use Rattle.field.specs.Slots.{Contents, contents, span_at}
 use Rattle.field.specs.Inner.{Chain}
+use Rattle.field.specs.FilterCode.{roof_at}
 use Rattle.field.specs.Walkable.{roof}
 use Rattle.field.proofs.Chains.{chain-cons, chain-less}
 use Rattle.field.proofs.Upward.{roof-of}
-use Rattle.field.proofs.Laying.{laying-start, laying-slot, laying-roof, laying-room, laying-under, laying-step, laying-end}
+use Rattle.field.proofs.Laying.{laying-slot, laying-roof, laying-room, laying-under, laying-step, laying-end}
 use Rattle.rerecast.proofs.compact_heightfield.fill_column.Goals as goal
-use Rattle.rerecast.proofs.compact_heightfield.fill_column.Goals.{After-roof_of-top, In-loop-at}
 
-pub loop-at-init : goal.loop-at-init
-loop-at-init c =
-    let p = c.requires in
-    laying-start p.by_index.0 p.sized.0 p.by_index.1.0 p.by_index.1.1
+-- a top that is read where the slots go on is the roof that they make
+up : (k : Contents) {nx : List ℕ} {h top : ℕ} → top ≡ roof_at k.floors h → (tl : List ℕ) → Chain nx h tl → top ≡ roof (map (span_at k) tl)
+up k e tl c = e ∙ sym (roof-of k tl c)
 
 pub offset_bounds-nexts-i : goal.offset_bounds-nexts-i
-offset_bounds-nexts-i c =
-    let slot : (c.loop-at.at < length c.args.nexts.now) × (length c.args.nexts.now ≤ none) = laying-slot c.loop-at.invariant c.loop-at-test.true in
-    omega (arith, slot)
+offset_bounds-nexts-i c = omega (arith, laying-slot c.loop-at.invariant c.loop-at-test.true)
 
 pub bounds-nexts-i : goal.bounds-nexts-i
-bounds-nexts-i c =
-    let slot : (c.loop-at.at < length c.args.nexts.now) × (length c.args.nexts.now ≤ none) = laying-slot c.loop-at.invariant c.loop-at-test.true in
-    omega (arith, slot)
+bounds-nexts-i c = omega (arith, laying-slot c.loop-at.invariant c.loop-at-test.true)
 
 pub roof_of-top-requires : goal.roof_of-top-requires
 roof_of-top-requires c =
@@ -35,43 +29,33 @@ roof_of-top-requires c =
     rw i (laying-roof c.loop-at.invariant c.loop-at-test.true (rw i at n))
 
 pub offset_bounds-floors-i : goal.offset_bounds-floors-i
-offset_bounds-floors-i c =
-    let slot : (c.loop-at.at < length c.args.nexts.now) × (length c.args.nexts.now ≤ none) = laying-slot c.loop-at.invariant c.loop-at-test.true in
-    omega (arith, slot)
+offset_bounds-floors-i c = omega (arith, laying-slot c.loop-at.invariant c.loop-at-test.true)
 
 pub bounds-floors-i : goal.bounds-floors-i
 bounds-floors-i c =
-    let slot : (c.loop-at.at < length c.args.nexts.now) × (length c.args.nexts.now ≤ none) = laying-slot c.loop-at.invariant c.loop-at-test.true in
-    let p = c.loop-at.invariant in
-    omega (arith, slot, c.index-i.ensures, p.sized.floors)
+    omega (arith, laying-slot c.loop-at.invariant c.loop-at-test.true, c.index-i.ensures, c.loop-at.invariant.sized.floors)
 
 pub offset_bounds-ceilings-i : goal.offset_bounds-ceilings-i
-offset_bounds-ceilings-i c =
-    let slot : (c.loop-at.at < length c.args.nexts.now) × (length c.args.nexts.now ≤ none) = laying-slot c.loop-at.invariant c.loop-at-test.true in
-    omega (arith, slot)
+offset_bounds-ceilings-i c = omega (arith, laying-slot c.loop-at.invariant c.loop-at-test.true)
 
 pub bounds-ceilings-i : goal.bounds-ceilings-i
 bounds-ceilings-i c =
-    let slot : (c.loop-at.at < length c.args.nexts.now) × (length c.args.nexts.now ≤ none) = laying-slot c.loop-at.invariant c.loop-at-test.true in
-    let p = c.loop-at.invariant in
-    omega (arith, slot, c.index-i.ensures, p.sized.ceilings)
+    omega (arith, laying-slot c.loop-at.invariant c.loop-at-test.true, c.index-i.ensures, c.loop-at.invariant.sized.ceilings)
 
 pub bounds-areas-i : goal.bounds-areas-i
 bounds-areas-i c =
-    let slot : (c.loop-at.at < length c.args.nexts.now) × (length c.args.nexts.now ≤ none) = laying-slot c.loop-at.invariant c.loop-at-test.true in
-    let p = c.loop-at.invariant in
-    omega (arith, slot, c.index-i.ensures, p.sized.areas)
+    omega (arith, laying-slot c.loop-at.invariant c.loop-at-test.true, c.index-i.ensures, c.loop-at.invariant.sized.areas)
 
 pub place-k-requires : goal.place-k-requires
 place-k-requires c =
-    let up : let s = c.args in (tl : List ℕ) → Chain s.nexts.now (get_or s.nexts.now c.loop-at.at 0) tl → c.roof_of-top.result ≡ roof (map (span_at (contents s.floors.now s.ceilings.now s.areas.now)) tl) = λ tl k. let s = c.args in
-    (rw c.index-i.ensures at c.roof_of-top.ensures) ∙ sym (roof-of (contents s.floors.now s.ceilings.now s.areas.now) tl k) in
     let p = c.loop-at.invariant in
     let n = c.loop-at-test.true in
+    let s = c.args in
     let top = c.roof_of-top.result in
+    let roofs = up (contents s.floors.now s.ceilings.now s.areas.now) (rw c.index-i.ensures at c.roof_of-top.ensures) in
     record {
-      room = rw c.index-i.ensures (laying-room p n top up);
-      column_in_bounds = rw c.index-i.ensures (c.requires.sized.1, p.cell, laying-under p n top up);
+      room = rw c.index-i.ensures (laying-room p n top roofs);
+      column_in_bounds = rw c.index-i.ensures (c.requires.sized.1, p.cell, laying-under p n top roofs);
     }
 
 pub loop-at-smaller : goal.loop-at-smaller
@@ -82,12 +66,12 @@ loop-at-smaller c =
 
 pub loop-at-preserved : goal.loop-at-preserved
 loop-at-preserved c =
-    let up : let s = c.args in (tl : List ℕ) → Chain s.nexts.now (get_or s.nexts.now c.loop-at.at 0) tl → c.roof_of-top.result ≡ roof (map (span_at (contents s.floors.now s.ceilings.now s.areas.now)) tl) = λ tl k. let s = c.args in
-    (rw c.index-i.ensures at c.roof_of-top.ensures) ∙ sym (roof-of (contents s.floors.now s.ceilings.now s.areas.now) tl k) in
+    let s = c.args in
     let i = c.index-i.ensures in
     let e = c.place-k.ensures in
     rw i
-    (laying-step c.loop-at.invariant c.loop-at-test.true c.roof_of-top.result (up) (rw i at e.0) (rw i at e.1) (rw i at e.2))
+    (laying-step c.loop-at.invariant c.loop-at-test.true c.roof_of-top.result (up (contents s.floors.now s.ceilings.now s.areas.now) (rw i at c.roof_of-top.ensures))
+    (rw i at e.0) (rw i at e.1) (rw i at e.2))
 
 pub returns : goal.returns
 returns c = laying-end c.loop-at.invariant c.loop-at-test.false
