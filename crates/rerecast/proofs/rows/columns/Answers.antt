@@ -1,9 +1,9 @@
 -- `rasterize::columns` meets its contract. The loop's invariant: the columns from k on, of what is left of the part, come on the store as it is now to what all of
 -- them come to. No more insertions were made than columns passed.
 use mathlib.Core.Path.{◌≡◌, refl, ap, ◌∙◌}
-use mathlib.Core.Bool.{Bool}
+use mathlib.Core.Bool.{Bool, not}
 use mathlib.Core.List.{List}
-use Prim.Native.Nat.{ℕ, ◌+◌}
+use Prim.Native.Nat.{ℕ, ◌+◌, ◌≤◌}
 use native.Mathlib.Omega.{arith}
 use lib.IntN.{ℤ}
 use lib.Ieee.{Float}
@@ -16,13 +16,13 @@ use Rattle.clip.specs.Cut.{first_of, second_of}
 use Rattle.clip.specs.Arrays.{half}
 use Rattle.clip.specs.Cell.{flat_at, Celled, cell_cut_of}
 use Rattle.clip.specs.Slices.{edge_of}
-use Rattle.clip.specs.Work.{edge_at, cell_events}
+use Rattle.clip.specs.Work.{and_then, edge_at, cell_events}
 use Rattle.clip.proofs.Flat.{cell-blind, xs-long, ys-long, kept-is}
-use Rattle.field.specs.Working.{numbered}
+use Rattle.field.specs.Working.{numbered, turn_events, turns_to}
 use Rattle.field.proofs.Carrying.{remains-is, remains-as}
 use Rattle.field.proofs.Slicing.{cells-turn, turns-end, turn-length}
 use Rattle.field.proofs.Cells.{cell-one}
-use Rattle.rerecast.specs.Rasterize.{made_by}
+use Rattle.rerecast.specs.Rasterize.{made_by, BothPlaces}
 use Rattle.rerecast.proofs.Rasterizing.{step-most, went-fits, turn-went, turn_stopped, again, edge-read}
 use Rattle.rerecast.proofs.rows.columns.Goals as goal
 
@@ -37,6 +37,13 @@ part f k upper n xs ys = first_of X (edge_at f X (numbered k)) (flat_at xs ys (h
 
 abbrev behind : Frame → ℕ → Bool → ℕ → List Float → List Float → List Corner
 behind f k upper n xs ys = second_of X (edge_at f X (numbered k)) (flat_at xs ys (half upper) n)
+
+-- the work that is left is that of the column and that of the columns behind it
+turns : (f : Frame) (z last k : ℕ) (upper : Bool) (n : ℕ) (xs ys : List Float) {δ : Celled} → δ ≡ cell_cut_of upper n (edge_at f X (numbered k)) xs ys → n ≤ 7 → BothPlaces xs ys → k ≤ last
+    → turns_to X (edge_at f X) (cell_events f z) last k (flat_at xs ys (half upper) n)
+    ≡ and_then (turn_events δ.kept.counts (cell_events f z) k (part f k upper n xs ys))
+    (turns_to X (edge_at f X) (cell_events f z) last (k + 1) (flat_at δ.xs δ.ys (half (not upper)) δ.kept.counts.second))
+turns f z last k upper n xs ys cut few long inside = cells-turn (edge_at f X) (cell_events f z) (cell-blind f z) last k upper n xs ys _ cut few long.all-xs long.all-ys inside
 
 pub loop-k-init : goal.loop-k-init
 loop-k-init c =
@@ -64,10 +71,9 @@ returns-in_default c others f H =
     let v = c.loop-k in
     let a = c.args in
     let g = a.job.frame in
-    let long = v.invariant.2 in
     let now = v.invariant.4 others f H in
     let cut = cut-is g v.k v.upper v.rest v.px v.py (record { sfits = c.number.type_inv }) c.number.ensures c.edge-end.ensures c.cut_cell-d.ensures in
-    turn_stopped a.job _ _ (cells-turn (edge_at g X) (cell_events g a.z) (cell-blind g a.z) a.last v.k v.upper v.rest v.px v.py _ cut v.invariant.1 long.all-xs long.all-ys c.loop-k-test.true)
+    turn_stopped a.job _ _ (turns g a.z a.last v.k v.upper v.rest v.px v.py cut v.invariant.1 v.invariant.2 c.loop-k-test.true)
     v.count now c.column-step.result _ _ c.in_default.is
     (c.column-step.ensures others now.field (part g v.k v.upper v.rest v.px v.py) (behind g v.k v.upper v.rest v.px v.py) (kept-is v.upper v.rest _ v.px v.py _ cut v.invariant.1) now.holds)
 
@@ -93,8 +99,7 @@ loop-k-preserved c =
     let now = v.invariant.4 held.0 held.1.0 held.1.1 in
     let here = step.ensures held.0 now.field cell more kept now.holds in
     let fits = went-fits a.job v.count now.field d.counts (cell_events g a.z) v.k cell step.result _ told here in
-    let most = step-most a.job v.count now.field _ step.result here in
-    let long = v.invariant.2 in (
+    let most = step-most a.job v.count now.field _ step.result here in (
       record {
         heads-as = step.auto.heads ∙ v.invariant.0.heads-as;
         floors-as = step.auto.floors ∙ v.invariant.0.floors-as;
@@ -103,11 +108,11 @@ loop-k-preserved c =
         nexts-as = step.auto.nexts ∙ v.invariant.0.nexts-as;
       },
       fits.1,
-      record { all-xs = xs-long _ _ _ _ _ _ cut ∙ long.all-xs; all-ys = ys-long _ _ _ _ _ _ cut ∙ long.all-ys },
+      record { all-xs = xs-long _ _ _ _ _ _ cut ∙ v.invariant.2.all-xs; all-ys = ys-long _ _ _ _ _ _ cut ∙ v.invariant.2.all-ys },
       omega (arith, most, ap made_by told, turn-length 1 (omega arith) (cell_events g a.z) (λ x part. cell-one g a.z x part) d.counts v.k cell, v.invariant.3),
       λ others f H.
           let at = v.invariant.4 others f H in
-          turn-went a.job _ _ (cells-turn (edge_at g X) (cell_events g a.z) (cell-blind g a.z) a.last v.k v.upper v.rest v.px v.py _ cut v.invariant.1 long.all-xs long.all-ys c.loop-k-test.true)
+          turn-went a.job _ _ (turns g a.z a.last v.k v.upper v.rest v.px v.py cut v.invariant.1 v.invariant.2 c.loop-k-test.true)
           v.count at step.result _ told (step.ensures others at.field cell more kept at.holds),
     )
 
