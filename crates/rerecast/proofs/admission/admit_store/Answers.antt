@@ -22,22 +22,6 @@ pub returns-then-not-fit : goal.returns-then-not-fit
 returns-then-not-fit c =
     inl (λ f. says-false c.slices_fit-fit.result (ap not c.if-not-fit.true) c.slices_fit-fit.ensures (rw c.columns_of-n.ensures f.0.fits), refl)
 
-pub returns-then-marks-nexts : goal.returns-then-marks-nexts
-returns-then-marks-nexts c = inl (λ f. c.if-marks-nexts.true f.0.marks-fit, refl)
-
-pub returns-then-shortest-n : goal.returns-then-shortest-n
-returns-then-shortest-n c = inl (λ f. omega (arith, f.1, c.columns_of-n.ensures, c.if-shortest-n.true), refl)
-
-pub slice_bounds-is_sound-end : goal.slice_bounds-is_sound-end
-slice_bounds-is_sound-end c =
-    let f = says-true c.slices_fit-fit.result (ap not c.if-not-fit.false) c.slices_fit-fit.ensures in
-    sym (length-take-le c.columns_of-n.result c.args.heads.now (omega (arith, f.enough)))
-
-pub is_sound-sound-requires : goal.is_sound-sound-requires
-is_sound-sound-requires c =
-    let f = says-true c.slices_fit-fit.result (ap not c.if-not-fit.false) c.slices_fit-fit.ensures in
-    record { floors_len = (f.floors-fit, f.ceilings-fit); marks_len = (c.if-marks-nexts.false, f.few) }
-
 pub returns-then-not-sound : goal.returns-then-not-sound
 returns-then-not-sound c =
     let a = c.args in

@@ -2,9 +2,6 @@
 use Rattle.field.specs.Filters.{low_obstacles, ledges}
 use Rattle.rerecast.proofs.heightfield.filter_all.Goals as goal
 
-pub raise_columns-requires : goal.raise_columns-requires
-raise_columns-requires c = (c.requires.by_index.0, c.args.floors.now, c.requires.by_index.1)
-
 pub clear_columns-requires : goal.clear_columns-requires
 clear_columns-requires c =
     let free = c.requires.by_index.0 in

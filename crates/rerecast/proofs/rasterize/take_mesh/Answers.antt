@@ -12,12 +12,6 @@ use Rattle.rerecast.specs.Answer.{said_of}
 use Rattle.rerecast.proofs.Rasterizing.{framed}
 use Rattle.rerecast.proofs.rasterize.take_mesh.Goals as goal
 
-pub columns_of-n-requires : goal.columns_of-n-requires
-columns_of-n-requires c = c.requires.sides.0.few
-
-pub slice_bounds-triangles-end-2 : goal.slice_bounds-triangles-end-2
-slice_bounds-triangles-end-2 c = sym (length-take-le c.columns_of-n.result c.args.heads.now (omega (arith, c.requires.sides.1, c.columns_of-n.ensures)))
-
 pub triangles-ending-requires : goal.triangles-ending-requires
 triangles-ending-requires c =
     let a = c.args in

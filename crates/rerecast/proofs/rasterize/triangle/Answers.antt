@@ -49,15 +49,6 @@ returns-then-not-meets c others f H =
     let none = met a.job.frame a.a a.b a.c xs.result ys.result zs.result xs.ensures.1 ys.ensures.1 zs.ensures.1 false (sym c.meets.ensures ∙ c.if-not-meets.true) in
     remains-is a.job.frame.width a.job.threshold a.job.area 0 (triangle-missed a.job.frame (a.a ∷ a.b ∷ a.c ∷ []) none) H
 
-pub overflow_sub-f : goal.overflow_sub-f
-overflow_sub-f c = omega (arith, c.requires.ready.sides.some-high)
-
-pub first_of-first-requires : goal.first_of-first-requires
-first_of-first-requires c = omega (arith, c.requires.ready.sides.high, c.requires.ready.sides.some-high)
-
-pub overflow_sub-f-2 : goal.overflow_sub-f-2
-overflow_sub-f-2 c = omega (arith, c.requires.ready.sides.some-high)
-
 pub overflow_add-last : goal.overflow_add-last
 overflow_add-last c =
     let sides = c.requires.ready.sides in

@@ -21,9 +21,6 @@ triangle_at-step-requires c =
     let now = v.invariant.1 held.0 held.1.0 held.1.1 in
     record { ready = (again _ _ c.requires.ready.0 v.invariant.0.heads-as, c.requires.ready.1, c.requires.ready.2, c.loop-t-test.true); by_index = (held.0, (now.field, now.holds)) }
 
-pub overflow_cast-result : goal.overflow_cast-result
-overflow_cast-result c = record { fits = omega (arith, c.loop-t-test.true, c.requires.ready.1.few) }
-
 pub returns-in-Stopped : goal.returns-in-Stopped
 returns-in-Stopped c others f H =
     let a = c.args in
@@ -34,12 +31,6 @@ returns-in-Stopped c others f H =
       says = mesh-halts-says a.frame.width a.threshold work now c.loop-t-test.true R;
       holds = mesh-halts-holds a.frame.width a.threshold work now c.loop-t-test.true R;
     }
-
-pub overflow_add-t : goal.overflow_add-t
-overflow_add-t c = record { fits = omega (arith, c.loop-t-test.true, c.requires.ready.1.few) }
-
-pub loop-t-smaller : goal.loop-t-smaller
-loop-t-smaller c = omega (arith, c.loop-t-test.true)
 
 pub loop-t-preserved : goal.loop-t-preserved
 loop-t-preserved c =

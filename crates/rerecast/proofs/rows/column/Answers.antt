@@ -6,14 +6,6 @@ use Rattle.clip.specs.Work.{cell_events}
 use Rattle.field.proofs.Carrying.{remains-is, remains-of}
 use Rattle.rerecast.proofs.rows.column.Goals as goal
 
-pub overflow_sub-k : goal.overflow_sub-k
-overflow_sub-k c = omega (arith, c.in-Polygon.ensures.0)
-
-pub place-requires : goal.place-requires
-place-requires c =
-    let ready = c.requires.ready in
-    record { ready = (ready.0, omega (arith, c.in-Polygon.ensures.0, ready.1), ready.2, ready.3); by_index = c.requires.by_index }
-
 pub returns-in-Eighth : goal.returns-in-Eighth
 returns-in-Eighth c others f first second e H =
     let a = c.args in

@@ -55,9 +55,6 @@ loop-k-init c =
       λ others f H. remains-is a.job.frame.width a.job.threshold a.job.area a.made refl H,
     )
 
-pub number-requires : goal.number-requires
-number-requires c = omega (arith, c.loop-k-test.true, c.requires.ready.3, c.requires.ready.0.sides.wide)
-
 pub column-step-requires : goal.column-step-requires
 column-step-requires c =
     let v = c.loop-k in
@@ -76,12 +73,6 @@ returns-in_default c others f H =
     turn_stopped a.job _ _ (turns g a.z a.last v.k v.upper v.rest v.px v.py cut v.invariant.1 v.invariant.2 c.loop-k-test.true)
     v.count now c.column-step.result _ _ c.in_default.is
     (c.column-step.ensures others now.field (part g v.k v.upper v.rest v.px v.py) (behind g v.k v.upper v.rest v.px v.py) (kept-is v.upper v.rest _ v.px v.py _ cut v.invariant.1) now.holds)
-
-pub overflow_add-k : goal.overflow_add-k
-overflow_add-k c = record { fits = omega (arith, c.loop-k-test.true, c.requires.ready.3, c.requires.ready.0.sides.wide) }
-
-pub loop-k-smaller : goal.loop-k-smaller
-loop-k-smaller c = omega (arith, c.loop-k-test.true)
 
 pub loop-k-preserved : goal.loop-k-preserved
 loop-k-preserved c =

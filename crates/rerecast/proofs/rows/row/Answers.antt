@@ -50,9 +50,6 @@ module _ (f : Frame) (z : ℕ) (xs ys : List Float) (n : ℕ) (few : n ≤ 7) {x
       → row_events f z part ≡ turns_to X (edge_at f X) (cell_events f z) (last + 1) first part
   turns h first last a b = row-turns f z part (rw (first-is, last-is) at h) first last (rw first-is at a) (rw last-is at b)
 
-pub misses-requires : goal.misses-requires
-misses-requires c = c.requires.ready.0.sides.wide
-
 pub returns-then-misses : goal.returns-then-misses
 returns-then-misses c others f H =
     let a = c.args in
@@ -61,15 +58,6 @@ returns-then-misses c others f H =
     let none = missed a.job.frame a.z a.xs.now a.ys.now a.n c.requires.ready.2 (record { sfits = x₀.type_inv }) (record { sfits = x₁.type_inv }) c.least_of.ensures c.greatest_of.ensures
     x₀.ensures x₁.ensures (sym c.misses.ensures ∙ c.if-misses.true) in
     remains-is a.job.frame.width a.job.threshold a.job.area a.made none H
-
-pub overflow_sub-f : goal.overflow_sub-f
-overflow_sub-f c = omega (arith, c.requires.ready.0.sides.some-wide)
-
-pub first_of-first-requires : goal.first_of-first-requires
-first_of-first-requires c = omega (arith, c.requires.ready.0.sides.wide, c.requires.ready.0.sides.some-wide)
-
-pub overflow_sub-f-2 : goal.overflow_sub-f-2
-overflow_sub-f-2 c = omega (arith, c.requires.ready.0.sides.some-wide)
 
 pub overflow_add-last : goal.overflow_add-last
 overflow_add-last c =

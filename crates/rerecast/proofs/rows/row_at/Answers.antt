@@ -6,15 +6,6 @@ use Rattle.clip.proofs.Flat.{length_at}
 use Rattle.field.proofs.Carrying.{remains-is, remains-of}
 use Rattle.rerecast.proofs.rows.row_at.Goals as goal
 
-pub overflow_sub-k : goal.overflow_sub-k
-overflow_sub-k c = omega (arith, c.in-Polygon.ensures.0)
-
-pub row-requires : goal.row-requires
-row-requires c =
-    let ready = c.requires.ready in
-    let judged = c.in-Polygon.ensures in
-    record { ready = (ready.0, omega (arith, judged.0, ready.1), judged.1, ready.2, ready.3); by_index = c.requires.by_index }
-
 pub returns-in-Eighth : goal.returns-in-Eighth
 returns-in-Eighth c others f H =
     let a = c.args in

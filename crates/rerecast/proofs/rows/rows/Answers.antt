@@ -59,9 +59,6 @@ loop-k-init c =
       λ others f H. remains-is a.job.frame.width a.job.threshold a.job.area 0 refl H,
     )
 
-pub number-requires : goal.number-requires
-number-requires c = omega (arith, c.loop-k-test.true, c.requires.ready.1, c.requires.ready.0.sides.high)
-
 pub row_at-step-requires : goal.row_at-step-requires
 row_at-step-requires c =
     let v = c.loop-k in
@@ -92,12 +89,6 @@ returns-in_default c others f H =
     turn_stopped a.job _ _ (turns-turn Z (edge_at g Z) (row_events g) a.last v.k v.upper v.rest _ _ _ cut v.invariant.1 v.invariant.2 v.invariant.3 c.loop-k-test.true)
     v.count now c.row_at-step.result _ _ c.in_default.is
     (flat a.job v.count now.field d.result v.k d.new.rx d.new.ry d.new.rz c.row_at-step.result (c.row_at-step.ensures others now.field now.holds))
-
-pub overflow_add-k : goal.overflow_add-k
-overflow_add-k c = record { fits = omega (arith, c.loop-k-test.true, c.requires.ready.1, c.requires.ready.0.sides.high) }
-
-pub loop-k-smaller : goal.loop-k-smaller
-loop-k-smaller c = omega (arith, c.loop-k-test.true)
 
 pub loop-k-preserved : goal.loop-k-preserved
 loop-k-preserved c =
