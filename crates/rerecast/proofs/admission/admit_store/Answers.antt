@@ -18,10 +18,6 @@ use Rattle.rerecast.proofs.admission.admit_store.Goals as goal
 fitted : {n m shortest : ℕ} {s : Store} → n ≡ m → Fits n s.heads s.slots → length s.marks ≡ length s.slots.nexts → n ≤ shortest → Fitted m shortest s
 fitted e f marks most = (record { fits = rw e at f; marks-fit = marks }, rw e at most)
 
-pub returns-then-not-fit : goal.returns-then-not-fit
-returns-then-not-fit c =
-    inl (λ f. says-false c.slices_fit-fit.result (ap not c.if-not-fit.true) c.slices_fit-fit.ensures (rw c.columns_of-n.ensures f.0.fits), refl)
-
 pub returns-then-not-sound : goal.returns-then-not-sound
 returns-then-not-sound c =
     let a = c.args in

@@ -11,9 +11,6 @@ use Rattle.rerecast.specs.Rasterize.{number_of, MeshWorked}
 use Rattle.rerecast.specs.declared.rasterize.Ending.TheVariants.{Halted}
 use Rattle.rerecast.proofs.heightfield.build.Goals as goal
 
-pub triangles-ending-requires : goal.triangles-ending-requires
-triangles-ending-requires c = record { ready = c.requires.ready; by_index = ([], rw (append-nil c.args.heads.now) c.requires.held) }
-
 pub returns-in-Halted : goal.returns-in-Halted
 returns-in-Halted c f H =
     let a = c.args in

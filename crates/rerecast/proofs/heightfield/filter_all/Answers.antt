@@ -2,15 +2,6 @@
 use Rattle.field.specs.Filters.{low_obstacles, ledges}
 use Rattle.rerecast.proofs.heightfield.filter_all.Goals as goal
 
-pub clear_columns-requires : goal.clear_columns-requires
-clear_columns-requires c =
-    let free = c.requires.by_index.0 in
-    let H = c.requires.by_index.1 in
-    record {
-      depth_value = rw (c.index.ensures, c.index-2.ensures) (c.requires.height_value.0, c.requires.height_value.1);
-      by_index = (free, (_, c.raise_columns.ensures free c.args.floors.now H.0 H.1));
-    }
-
 pub lower_columns-requires : goal.lower_columns-requires
 lower_columns-requires c =
     let free = c.requires.by_index.0 in

@@ -54,10 +54,12 @@ overflow_add-last c =
     let sides = c.requires.ready.sides in
     record { fits = omega (arith, last-inside c.args.job.frame.height _ sides.some-high c.held_last-last.ensures, sides.high) }
 
-pub rows-requires : goal.rows-requires
-rows-requires c =
-    let inside = last-inside c.args.job.frame.height _ c.requires.ready.sides.some-high c.held_last-last.ensures in
-    record { ready = (c.requires.ready, inside, record { all-xs = c.three-xs.ensures.0; all-ys = c.three-ys.ensures.0; all-zs = c.three-zs.ensures.0 }); by_index = c.requires.by_index }
+pub rows-requires-clause-ready : goal.rows-requires-clause-ready
+rows-requires-clause-ready c = (
+  c.requires.ready,
+  last-inside c.args.job.frame.height _ c.requires.ready.sides.some-high c.held_last-last.ensures,
+  record { all-xs = c.three-xs.ensures.0; all-ys = c.three-ys.ensures.0; all-zs = c.three-zs.ensures.0 },
+)
 
 pub returns : goal.returns
 returns c others f H =

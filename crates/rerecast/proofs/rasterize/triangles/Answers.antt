@@ -7,19 +7,11 @@ use Rattle.field.proofs.Meshing.{mesh-begins, mesh-on, mesh-halts-says, mesh-hal
 use Rattle.rerecast.proofs.Rasterizing.{again}
 use Rattle.rerecast.proofs.rasterize.triangles.Goals as goal
 
-pub loop-t-init : goal.loop-t-init
-loop-t-init c =
-    let a = c.args in (
-      record { heads-as = refl; floors-as = refl; ceilings-as = refl; areas-as = refl; nexts-as = refl },
-      λ others f H. mesh-begins a.frame.width a.threshold (work_of a.frame (mesh a.vertices.now a.indices.now a.triangle_areas.now)) (length a.triangle_areas.now) H,
-    )
-
-pub triangle_at-step-requires : goal.triangle_at-step-requires
-triangle_at-step-requires c =
-    let v = c.loop-t in
+pub triangle_at-step-requires-clause-by_index : goal.triangle_at-step-requires-clause-by_index
+triangle_at-step-requires-clause-by_index c =
     let held = c.requires.by_index in
-    let now = v.invariant.1 held.0 held.1.0 held.1.1 in
-    record { ready = (again _ _ c.requires.ready.0 v.invariant.0.heads-as, c.requires.ready.1, c.requires.ready.2, c.loop-t-test.true); by_index = (held.0, (now.field, now.holds)) }
+    let now = c.loop-t.invariant.1 held.0 held.1.0 held.1.1 in
+    (held.0, (now.field, now.holds))
 
 pub returns-in-Stopped : goal.returns-in-Stopped
 returns-in-Stopped c others f H =

@@ -6,11 +6,6 @@ use Rattle.clip.specs.Work.{cell_events}
 use Rattle.field.proofs.Carrying.{remains-is, remains-of}
 use Rattle.rerecast.proofs.rows.column.Goals as goal
 
-pub returns-in-Eighth : goal.returns-in-Eighth
-returns-in-Eighth c others f first second e H =
-    let a = c.args in
-    remains-is a.job.frame.width a.job.threshold a.job.area a.made (c.in-Eighth.ensures (cell_events a.job.frame a.z) first) H
-
 pub returns-in-Nothing : goal.returns-in-Nothing
 returns-in-Nothing c others f first second e H =
     let a = c.args in

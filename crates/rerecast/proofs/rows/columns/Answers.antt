@@ -45,23 +45,11 @@ turns : (f : Frame) (z last k : ℕ) (upper : Bool) (n : ℕ) (xs ys : List Floa
     (turns_to X (edge_at f X) (cell_events f z) last (k + 1) (flat_at δ.xs δ.ys (half (not upper)) δ.kept.counts.second))
 turns f z last k upper n xs ys cut few long inside = cells-turn (edge_at f X) (cell_events f z) (cell-blind f z) last k upper n xs ys _ cut few long.all-xs long.all-ys inside
 
-pub loop-k-init : goal.loop-k-init
-loop-k-init c =
-    let a = c.args in (
-      record { heads-as = refl; floors-as = refl; ceilings-as = refl; areas-as = refl; nexts-as = refl },
-      c.requires.ready.2,
-      c.requires.ready.5,
-      omega arith,
-      λ others f H. remains-is a.job.frame.width a.job.threshold a.job.area a.made refl H,
-    )
-
-pub column-step-requires : goal.column-step-requires
-column-step-requires c =
-    let v = c.loop-k in
-    let k = c.loop-k-test.true in
+pub column-step-requires-clause-by_index : goal.column-step-requires-clause-by_index
+column-step-requires-clause-by_index c =
     let held = c.requires.by_index in
-    let now = v.invariant.4 held.0 held.1.0 held.1.1 in
-    record { ready = (again _ _ c.requires.ready.0 v.invariant.0.heads-as, omega (arith, k, c.requires.ready.3), c.requires.ready.1, omega (arith, k, v.invariant.3, c.requires.ready.3, c.requires.ready.0.sides.wide, c.requires.ready.4)); by_index = (held.0, (now.field, now.holds)) }
+    let now = c.loop-k.invariant.4 held.0 held.1.0 held.1.1 in
+    (held.0, (now.field, now.holds))
 
 pub returns-in_default : goal.returns-in_default
 returns-in_default c others f H =

@@ -64,11 +64,10 @@ overflow_add-last c =
     let sides = c.requires.ready.0.sides in
     record { fits = omega (arith, last-inside c.args.job.frame.width _ sides.some-wide c.held_last-last.ensures, sides.wide) }
 
-pub columns-requires : goal.columns-requires
-columns-requires c =
+pub columns-requires-clause-ready : goal.columns-requires-clause-ready
+columns-requires-clause-ready c =
     let ready = c.requires.ready in
-    let inside = last-inside c.args.job.frame.width _ ready.0.sides.some-wide c.held_last-last.ensures in
-    record { ready = (ready.0, ready.1, ready.2, inside, ready.3, ready.4); by_index = c.requires.by_index }
+    (ready.0, ready.1, ready.2, last-inside c.args.job.frame.width _ ready.0.sides.some-wide c.held_last-last.ensures, ready.3, ready.4)
 
 pub returns : goal.returns
 returns c others f H =

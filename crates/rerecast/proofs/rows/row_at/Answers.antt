@@ -6,12 +6,6 @@ use Rattle.clip.proofs.Flat.{length_at}
 use Rattle.field.proofs.Carrying.{remains-is, remains-of}
 use Rattle.rerecast.proofs.rows.row_at.Goals as goal
 
-pub returns-in-Eighth : goal.returns-in-Eighth
-returns-in-Eighth c others f H =
-    let a = c.args in
-    remains-is a.job.frame.width a.job.threshold a.job.area a.made
-    (c.in-Eighth.ensures (row_events a.job.frame) (flat_at a.xs.now a.ys.now 0 a.d.first)) H
-
 pub returns-in-Nothing : goal.returns-in-Nothing
 returns-in-Nothing c others f H =
     let a = c.args in

@@ -48,35 +48,11 @@ flat : (job : Job) (count : ℕ) (f : Field) (d : Counts) (k : ℕ) (xs ys zs : 
 flat job count f d k xs ys zs r C =
     remains-of job.frame.width job.threshold job.area count f (turn-flat d (row_events job.frame) (row-blind job.frame) k xs ys zs d.first) C
 
-pub loop-k-init : goal.loop-k-init
-loop-k-init c =
-    let a = c.args in (
-      record { heads-as = refl; floors-as = refl; ceilings-as = refl; areas-as = refl; nexts-as = refl },
-      omega arith,
-      record { xs-long = c.requires.ready.2.all-xs; ys-long = c.requires.ready.2.all-ys; zs-long = c.requires.ready.2.all-zs },
-      record { xs-long = refl; ys-long = refl; zs-long = refl },
-      omega arith,
-      λ others f H. remains-is a.job.frame.width a.job.threshold a.job.area 0 refl H,
-    )
-
-pub row_at-step-requires : goal.row_at-step-requires
-row_at-step-requires c =
-    let v = c.loop-k in
-    let k = c.loop-k-test.true in
-    let ready = c.requires.ready in
-    let sides = ready.0.sides in
+pub row_at-step-requires-clause-by_index : goal.row_at-step-requires-clause-by_index
+row_at-step-requires-clause-by_index c =
     let held = c.requires.by_index in
-    let now = v.invariant.5 held.0 held.1.0 held.1.1 in
-    let long = part-long v.upper v.rest Z _ (arrays v.px v.py v.pz) (arrays v.rx v.ry v.rz) _ c.divide-d.ensures v.invariant.3 in
-    record {
-      ready = (
-        again _ _ ready.0 v.invariant.0.heads-as,
-        omega (arith, k, ready.1),
-        omega (arith, k, v.invariant.4, ready.1, sides.high),
-        record { all-xs = long.xs-long; all-ys = long.ys-long },
-      );
-      by_index = (held.0, (now.field, now.holds));
-    }
+    let now = c.loop-k.invariant.5 held.0 held.1.0 held.1.1 in
+    (held.0, (now.field, now.holds))
 
 pub returns-in_default : goal.returns-in_default
 returns-in_default c others f H =
