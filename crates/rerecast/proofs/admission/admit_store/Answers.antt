@@ -1,12 +1,10 @@
 -- `admit_store` meets its contract: its tests are those of the slices, then that of the field.
 use Prim.Native.Nat.{ℕ, ◌≤◌}
-use mathlib.Core.Path.{◌≡◌, refl, sym, ap}
+use mathlib.Core.Path.{◌≡◌, refl, ap}
 use mathlib.Core.Logic.{inl, inr}
 use mathlib.Core.Bool.{not}
 use mathlib.Core.List.{List}
-use native.Mathlib.Omega.{arith}
 use lib.ListN.{length}
-use lib.Seq.{length-take-le}
 use Rattle.replies.specs.Said.{just}
 use Rattle.field.specs.Slots.{slots}
 use Rattle.field.specs.Store.{Store, store, Fits, left}

@@ -1,9 +1,7 @@
 -- `rasterize::take_mesh` meets its contract: the triangles work on the heads of the grid's columns, and the heads past them stay.
-use mathlib.Core.Path.{sym, ◌∙◌}
+use mathlib.Core.Path.{◌∙◌}
 use mathlib.Core.List.{[], append-nil}
-use native.Mathlib.Omega.{arith}
 use lib.ListN.{take}
-use lib.Seq.{length-take-le}
 use Rattle.clip.specs.Work.{frame_of}
 use Rattle.field.specs.Slots.{slots}
 use Rattle.field.specs.Meshes.{mesh, rasterized}

@@ -1,10 +1,7 @@
 -- `rasterize::triangles` meets its contract. The loop's invariant: the triangles from t on come on the store as it is now to what all of them come to.
-use mathlib.Core.Path.{refl, ◌∙◌}
-use native.Mathlib.Omega.{arith}
-use lib.ListN.{length}
+use mathlib.Core.Path.{◌∙◌}
 use Rattle.field.specs.Meshes.{mesh, work_of}
-use Rattle.field.proofs.Meshing.{mesh-begins, mesh-on, mesh-halts-says, mesh-halts-holds, mesh-ends-says, mesh-ends-holds}
-use Rattle.rerecast.proofs.Rasterizing.{again}
+use Rattle.field.proofs.Meshing.{mesh-on, mesh-halts-says, mesh-halts-holds, mesh-ends-says, mesh-ends-holds}
 use Rattle.rerecast.proofs.rasterize.triangles.Goals as goal
 
 pub triangle_at-step-requires-clause-by_index : goal.triangle_at-step-requires-clause-by_index

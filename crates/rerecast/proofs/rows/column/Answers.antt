@@ -1,6 +1,5 @@
 -- `rasterize::column` meets its contract.
 use mathlib.Core.Path.{sym, ap}
-use native.Mathlib.Omega.{arith}
 use Rattle.clip.specs.declared.cell.Piece.{Piece}
 use Rattle.clip.specs.Work.{cell_events}
 use Rattle.field.proofs.Carrying.{remains-is, remains-of}

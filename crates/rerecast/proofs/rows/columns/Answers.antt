@@ -1,6 +1,6 @@
 -- `rasterize::columns` meets its contract. The loop's invariant: the columns from k on, of what is left of the part, come on the store as it is now to what all of
 -- them come to. No more insertions were made than columns passed.
-use mathlib.Core.Path.{◌≡◌, refl, ap, ◌∙◌}
+use mathlib.Core.Path.{◌≡◌, ap, ◌∙◌}
 use mathlib.Core.Bool.{Bool, not}
 use mathlib.Core.List.{List}
 use Prim.Native.Nat.{ℕ, ◌+◌, ◌≤◌}
@@ -19,11 +19,11 @@ use Rattle.clip.specs.Slices.{edge_of}
 use Rattle.clip.specs.Work.{and_then, edge_at, cell_events}
 use Rattle.clip.proofs.Flat.{cell-blind, xs-long, ys-long, kept-is}
 use Rattle.field.specs.Working.{numbered, turn_events, turns_to}
-use Rattle.field.proofs.Carrying.{remains-is, remains-as}
+use Rattle.field.proofs.Carrying.{remains-as}
 use Rattle.field.proofs.Slicing.{cells-turn, turns-end, turn-length}
 use Rattle.field.proofs.Cells.{cell-one}
 use Rattle.rerecast.specs.Rasterize.{made_by, BothPlaces}
-use Rattle.rerecast.proofs.Rasterizing.{step-most, went-fits, turn-went, turn_stopped, again, edge-read}
+use Rattle.rerecast.proofs.Rasterizing.{step-most, went-fits, turn-went, turn_stopped, edge-read}
 use Rattle.rerecast.proofs.rows.columns.Goals as goal
 
 -- a turn's cut is at the end of column k

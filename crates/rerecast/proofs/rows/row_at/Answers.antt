@@ -1,5 +1,4 @@
 -- `rasterize::row_at` meets its contract.
-use native.Mathlib.Omega.{arith}
 use Rattle.clip.specs.Cell.{flat_at}
 use Rattle.clip.specs.Work.{row_events}
 use Rattle.clip.proofs.Flat.{length_at}

@@ -1,9 +1,9 @@
 -- `rasterize::rows` meets its contract. The loop's invariant: the rows from k on, of what is left of the triangle, come on the store as it is now to what all of them
 -- come to. No more insertions were made than the rows passed have cells.
-use mathlib.Core.Path.{◌≡◌, refl, ap, ◌∙◌}
-use mathlib.Core.Bool.{Bool, not}
+use mathlib.Core.Path.{◌≡◌, ap, ◌∙◌}
+use mathlib.Core.Bool.{Bool}
 use mathlib.Core.List.{List}
-use Prim.Native.Nat.{ℕ, ◌+◌, ◌<◌, ◌≤◌}
+use Prim.Native.Nat.{ℕ, ◌<◌, ◌≤◌}
 use native.Mathlib.Omega.{arith}
 use lib.IntN.{ℤ}
 use lib.ListN.{length}
@@ -23,13 +23,13 @@ use Rattle.clip.proofs.Flat.{row-blind}
 use Rattle.field.specs.Slots.{Slots}
 use Rattle.field.specs.Field.{Field}
 use Rattle.field.specs.Working.{numbered, turn_events}
-use Rattle.field.proofs.Carrying.{remains-is, remains-of, remains-as}
+use Rattle.field.proofs.Carrying.{remains-of, remains-as}
 use Rattle.field.proofs.Slicing.{turns-turn, turns-end, turn-flat, turn-length}
 use Rattle.field.proofs.Cells.{row-length}
 use Rattle.rerecast.specs.Rasterize.{made_by, Carries}
 use Rattle.rerecast.specs.declared.turns.Job.{Job}
 use Rattle.rerecast.specs.declared.turns.Step.{Step}
-use Rattle.rerecast.proofs.Rasterizing.{step-most, went-fits, turn-went, turn_stopped, again, edge-read}
+use Rattle.rerecast.proofs.Rasterizing.{step-most, went-fits, turn-went, turn_stopped, edge-read}
 use Rattle.rerecast.proofs.rows.rows.Goals as goal
 
 -- a row has at most as many insertions as columns, and its own stop
