@@ -31,7 +31,8 @@ module _ (f : Frame) (a b c : Corner) (xs ys zs : List Float) (ex : numbers_at x
   met t e = rw loads at e
 
   -- the triangle's rows, from z₀ to z₁ as they are handed on
-  turns : {z₀ z₁ : ℤ} (s₀ : SFits w32 z₀) (s₁ : SFits w32 z₁) {v₀ v₁ : Float} → v₀ ≡ least_of (numbers_at zs 0 3) → v₁ ≡ greatest_of (numbers_at zs 0 3)
+  turns : {z₀ z₁ : ℤ} (s₀ : SFits w32 z₀) (s₁ : SFits w32 z₁) {v₀ v₁ : Float}
+      → v₀ ≡ least_of (numbers_at zs 0 3) → v₁ ≡ greatest_of (numbers_at zs 0 3)
       → z₀ ≡ cell_of f.grid.min.z f.inverse v₀ → z₁ ≡ cell_of f.grid.min.z f.inverse v₁ → meets_of f (polygon_at (arrays xs ys zs) 0 3) ≡ true
       → (first last : ℕ) → numbered first ≡ held_first (f.height - 1) (to_z w32 (of_z w32 z₀)) → last ≡ held_last (f.height - 1) (to_z w32 (of_z w32 z₁))
       → triangle_events f (a ∷ b ∷ c ∷ []) ≡ turns_to Z (edge_at f Z) (row_events f) (last + 1) first (polygon_at (arrays xs ys zs) 0 3)
@@ -46,7 +47,8 @@ returns-then-not-meets c others f H =
     let xs = c.three-xs in
     let ys = c.three-ys in
     let zs = c.three-zs in
-    let none = met a.job.frame a.a a.b a.c xs.result ys.result zs.result xs.ensures.1 ys.ensures.1 zs.ensures.1 false (sym c.meets.ensures ∙ c.if-not-meets.true) in
+    let none = met a.job.frame a.a a.b a.c xs.result ys.result zs.result xs.ensures.1 ys.ensures.1 zs.ensures.1 false
+    (sym c.meets.ensures ∙ c.if-not-meets.true) in
     remains-is a.job.frame.width a.job.threshold a.job.area 0 (triangle-missed a.job.frame (a.a ∷ a.b ∷ a.c ∷ []) none) H
 
 pub overflow_add-last : goal.overflow_add-last
@@ -69,7 +71,7 @@ returns c others f H =
     let zs = c.three-zs in
     let z₀ = c.cell_at-z0 in
     let z₁ = c.cell_at-z1 in
-    let each = turns a.job.frame a.a a.b a.c xs.result ys.result zs.result xs.ensures.1 ys.ensures.1 zs.ensures.1 (record { sfits = z₀.type_inv }) (record { sfits = z₁.type_inv })
-    c.least_of.ensures c.greatest_of.ensures z₀.ensures z₁.ensures (sym c.meets.ensures ∙ c.if-not-meets.false)
+    let each = turns a.job.frame a.a a.b a.c xs.result ys.result zs.result xs.ensures.1 ys.ensures.1 zs.ensures.1
+    (record { sfits = z₀.type_inv }) (record { sfits = z₁.type_inv }) c.least_of.ensures c.greatest_of.ensures z₀.ensures z₁.ensures (sym c.meets.ensures ∙ c.if-not-meets.false)
     c.first_of-first.result c.held_last-last.result c.first_of-first.ensures c.held_last-last.ensures in
     remains-of a.job.frame.width a.job.threshold a.job.area 0 f each (c.rows.ensures others f H)

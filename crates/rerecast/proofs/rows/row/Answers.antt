@@ -55,8 +55,8 @@ returns-then-misses c others f H =
     let a = c.args in
     let x₀ = c.cell_at-x0 in
     let x₁ = c.cell_at-x1 in
-    let none = missed a.job.frame a.z a.xs.now a.ys.now a.n c.requires.ready.2 (record { sfits = x₀.type_inv }) (record { sfits = x₁.type_inv }) c.least_of.ensures c.greatest_of.ensures
-    x₀.ensures x₁.ensures (sym c.misses.ensures ∙ c.if-misses.true) in
+    let none = missed a.job.frame a.z a.xs.now a.ys.now a.n c.requires.ready.2 (record { sfits = x₀.type_inv }) (record { sfits = x₁.type_inv })
+    c.least_of.ensures c.greatest_of.ensures x₀.ensures x₁.ensures (sym c.misses.ensures ∙ c.if-misses.true) in
     remains-is a.job.frame.width a.job.threshold a.job.area a.made none H
 
 pub overflow_add-last : goal.overflow_add-last
@@ -74,6 +74,7 @@ returns c others f H =
     let a = c.args in
     let x₀ = c.cell_at-x0 in
     let x₁ = c.cell_at-x1 in
-    let each = turns a.job.frame a.z a.xs.now a.ys.now a.n c.requires.ready.2 (record { sfits = x₀.type_inv }) (record { sfits = x₁.type_inv }) c.least_of.ensures c.greatest_of.ensures
-    x₀.ensures x₁.ensures (sym c.misses.ensures ∙ c.if-misses.false) c.first_of-first.result c.held_last-last.result c.first_of-first.ensures c.held_last-last.ensures in
+    let each = turns a.job.frame a.z a.xs.now a.ys.now a.n c.requires.ready.2 (record { sfits = x₀.type_inv }) (record { sfits = x₁.type_inv })
+    c.least_of.ensures c.greatest_of.ensures x₀.ensures x₁.ensures (sym c.misses.ensures ∙ c.if-misses.false)
+    c.first_of-first.result c.held_last-last.result c.first_of-first.ensures c.held_last-last.ensures in
     remains-of a.job.frame.width a.job.threshold a.job.area a.made f each (c.columns.ensures others f H)

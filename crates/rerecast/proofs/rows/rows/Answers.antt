@@ -38,7 +38,8 @@ row-most f z part some wide = omega (arith, row-length f z part some)
 
 -- a turn's cut is at the end of row k
 cut-is : (f : Frame) (k : ℕ) (upper : Bool) (n : ℕ) (a b : Arrays) {δ : Divided} {i : ℤ} {end : Float} → SFits w16 i → i ≡ numbered k
-    → end ≡ edge_of f.grid.min.z f.grid.cell_size (to_z w16 (of_z w16 i)) → δ ≡ divide_of upper n Z end a b → δ ≡ divide_of upper n Z (edge_at f Z (numbered k)) a b
+    → end ≡ edge_of f.grid.min.z f.grid.cell_size (to_z w16 (of_z w16 i)) → δ ≡ divide_of upper n Z end a b
+    → δ ≡ divide_of upper n Z (edge_at f Z (numbered k)) a b
 cut-is f k upper n a b fits is ends e = e ∙ ap (λ (y : Float). divide_of upper n Z y a b) (edge-read f.grid.min.z f.grid.cell_size fits is ends)
 
 -- the row's work does not hang on the zs of its part
@@ -61,7 +62,7 @@ returns-in_default c others f H =
     let g = a.job.frame in
     let d = c.divide-d in
     let now = v.invariant.5 others f H in
-    let cut = cut-is g v.k v.upper v.rest (arrays v.px v.py v.pz) (arrays v.rx v.ry v.rz) (record { sfits = c.number.type_inv }) c.number.ensures c.edge-end.ensures d.ensures in
+    let cut = cut-is g v.k _ _ _ _ (record { sfits = c.number.type_inv }) c.number.ensures c.edge-end.ensures d.ensures in
     turn_stopped a.job _ _ (turns-turn Z (edge_at g Z) (row_events g) a.last v.k v.upper v.rest _ _ _ cut v.invariant.1 v.invariant.2 v.invariant.3 c.loop-k-test.true)
     v.count now c.row_at-step.result _ _ c.in_default.is
     (flat a.job v.count now.field d.result v.k d.new.rx d.new.ry d.new.rz c.row_at-step.result (c.row_at-step.ensures others now.field now.holds))
@@ -75,12 +76,13 @@ loop-k-preserved c =
     let d = c.divide-d in
     let step = c.row_at-step in
     let told = c.in-Went.is in
-    let cut = cut-is g v.k v.upper v.rest (arrays v.px v.py v.pz) (arrays v.rx v.ry v.rz) (record { sfits = c.number.type_inv }) c.number.ensures c.edge-end.ensures d.ensures in
+    let cut = cut-is g v.k _ _ _ _ (record { sfits = c.number.type_inv }) c.number.ensures c.edge-end.ensures d.ensures in
     let held = c.requires.by_index in
     let now = v.invariant.5 held.0 held.1.0 held.1.1 in
     let here = flat a.job v.count now.field d.result v.k d.new.rx d.new.ry d.new.rz step.result (step.ensures held.0 now.field now.holds) in
     let row = polygon_at (arrays d.new.rx d.new.ry d.new.rz) 0 d.result.first in
     let fits = went-fits a.job v.count now.field d.result (row_events g) v.k row step.result _ told here in
+    let few = turn-length 4097 (omega arith) (row_events g) (λ z part. row-most g z part sides.some-wide sides.wide) d.result v.k row in
     let most = step-most a.job v.count now.field _ step.result here in (
       record {
         heads-as = step.auto.heads ∙ v.invariant.0.heads-as;
@@ -92,7 +94,7 @@ loop-k-preserved c =
       fits.1,
       polygon-long v.upper v.rest Z _ _ _ _ cut v.invariant.2,
       part-long v.upper v.rest Z _ _ _ _ cut v.invariant.3,
-      omega (arith, most, ap made_by told, turn-length 4097 (omega arith) (row_events g) (λ z part. row-most g z part sides.some-wide sides.wide) d.result v.k row, v.invariant.4),
+      omega (arith, most, ap made_by told, few, v.invariant.4),
       λ others f H.
           let at = v.invariant.5 others f H in
           turn-went a.job _ _ (turns-turn Z (edge_at g Z) (row_events g) a.last v.k v.upper v.rest _ _ _ cut v.invariant.1 v.invariant.2 v.invariant.3 c.loop-k-test.true)
@@ -104,4 +106,5 @@ returns c others f H =
     let v = c.loop-k in
     let a = c.args in
     remains-as a.job.frame.width a.job.threshold a.job.area v.count
-    (turns-end Z (edge_at a.job.frame Z) (row_events a.job.frame) a.last v.k (polygon_at (arrays v.px v.py v.pz) (half v.upper) v.rest) c.loop-k-test.false) (v.invariant.5 others f H)
+    (turns-end Z (edge_at a.job.frame Z) (row_events a.job.frame) a.last v.k (polygon_at (arrays v.px v.py v.pz) (half v.upper) v.rest) c.loop-k-test.false)
+    (v.invariant.5 others f H)
