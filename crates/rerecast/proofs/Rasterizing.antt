@@ -122,11 +122,13 @@ framed g w h {f} {heads} e s n = subst (λ (k : Frame). Ready k heads) (sym e) (
 -- ---- numbers and coordinates that are handed on
 
 -- the cell of a coordinate, which `cell_at` was asked about
-pub cell-read : (start inverse : Float) {i : ℤ} {v w : Float} → SFits w32 i → i ≡ cell_of start inverse v → v ≡ w → to_z w32 (of_z w32 i) ≡ cell_of start inverse w
+pub cell-read : (start inverse : Float) {i : ℤ} {v w : Float} → SFits w32 i → i ≡ cell_of start inverse v → v ≡ w
+    → to_z w32 (of_z w32 i) ≡ cell_of start inverse w
 cell-read start inverse {i} fits e is = to_z-of_z w32 i fits ∙ e ∙ ap (λ (y : Float). cell_of start inverse y) is
 
 -- where row or column `at` ends, which `edge` was asked about
-pub edge-read : (start size : Float) {i at : ℤ} {end : Float} → SFits w16 i → i ≡ at → end ≡ edge_of start size (to_z w16 (of_z w16 i)) → end ≡ edge_of start size at
+pub edge-read : (start size : Float) {i at : ℤ} {end : Float} → SFits w16 i → i ≡ at → end ≡ edge_of start size (to_z w16 (of_z w16 i))
+    → end ≡ edge_of start size at
 edge-read start size {i} fits is e = e ∙ ap (λ (j : ℤ). edge_of start size j) (to_z-of_z w16 i fits ∙ is)
 
 -- the last row or column is one of the grid's

@@ -13,7 +13,8 @@ use Rattle.rerecast.specs.Inner.{Fitted}
 use Rattle.rerecast.proofs.admission.admit_store.Goals as goal
 
 -- slices that fit n columns fit as many as n is
-fitted : {n m shortest : ℕ} {s : Store} → n ≡ m → Fits n s.heads s.slots → length s.marks ≡ length s.slots.nexts → n ≤ shortest → Fitted m shortest s
+fitted : {n m shortest : ℕ} {s : Store} → n ≡ m → Fits n s.heads s.slots → length s.marks ≡ length s.slots.nexts → n ≤ shortest
+    → Fitted m shortest s
 fitted e f marks most = (record { fits = rw e at f; marks-fit = marks }, rw e at most)
 
 pub returns-then-not-sound : goal.returns-then-not-sound

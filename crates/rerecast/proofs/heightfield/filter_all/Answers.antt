@@ -12,5 +12,6 @@ pub returns : goal.returns
 returns c free f H =
     let one = c.raise_columns.ensures free c.args.floors.now f H in
     let two = c.clear_columns.ensures free (low_obstacles c.args.walkable_climb f) one in
-    let three = c.lower_columns.ensures free (ledges c.index.result c.index-2.result c.args.walkable_height c.args.walkable_climb (low_obstacles c.args.walkable_climb f)) two in
+    let three = c.lower_columns.ensures free
+    (ledges c.index.result c.index-2.result c.args.walkable_height c.args.walkable_climb (low_obstacles c.args.walkable_climb f)) two in
     rw (c.index.ensures, c.index-2.ensures) at three

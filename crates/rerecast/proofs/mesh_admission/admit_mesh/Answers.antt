@@ -13,4 +13,5 @@ returns-in-Granted c =
     let shaped = c.mesh_shaped-shaped in
     let shortest = c.heads_served-shortest in
     let passed = c.in-Granted in
-    numbers-tested _ _ _ _ shaped.result shaped.ensures shortest.result shortest.ensures c.admit_numbers.result passed.width passed.height passed.ensures c.admit_numbers.ensures
+    numbers-tested _ _ _ _ shaped.result shaped.ensures shortest.result shortest.ensures
+    c.admit_numbers.result passed.width passed.height passed.ensures c.admit_numbers.ensures

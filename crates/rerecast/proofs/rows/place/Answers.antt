@@ -10,7 +10,8 @@ use Rattle.rerecast.proofs.rows.place.Goals as goal
 pub put-requires : goal.put-requires
 put-requires c =
     let heights = span-heights max_height _ _ _ _ _ c.snap_of.result c.snap_of.ensures _ _ c.in-Span.is in
-    record { ready = (c.requires.ready.0, c.requires.ready.1, c.requires.ready.2, omega (arith, heights.0), c.requires.ready.3); by_index = c.requires.by_index }
+    let ready = c.requires.ready in
+    record { ready = (ready.0, ready.1, ready.2, omega (arith, heights.0), ready.3); by_index = c.requires.by_index }
 
 pub returns-in-Outside : goal.returns-in-Outside
 returns-in-Outside c others f part el eh H =

@@ -17,5 +17,6 @@ returns-in-Refused c others f H =
     let a = c.args in
     let inside = cell_below a.x a.z _ _ c.requires.ready.1 c.requires.ready.2 in
     refused-stops a.job a.made f a.x a.z a.floor a.ceiling _ c.in-Refused.is
-    (refused-field H (a.x + a.z * a.job.frame.width) (omega (arith, inside, c.requires.ready.0.all, length-append a.heads.now others)) _ a.job.threshold c.requires.ready.3)
+    (refused-field H (a.x + a.z * a.job.frame.width) (omega (arith, inside, c.requires.ready.0.all, length-append a.heads.now others))
+    _ a.job.threshold c.requires.ready.3)
     (c.insert_span.ensures others f H)
