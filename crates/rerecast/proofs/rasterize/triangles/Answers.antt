@@ -1,6 +1,5 @@
 -- `rasterize::triangles` meets its contract. The loop's invariant: the triangles from t on come on the store as it is now to what all of them come to.
 use mathlib.Core.Path.{◌∙◌}
-use Rattle.field.specs.Meshes.{mesh, work_of}
 use Rattle.field.proofs.Meshing.{mesh-on, mesh-halts-says, mesh-halts-holds, mesh-ends-says, mesh-ends-holds}
 use Rattle.rerecast.proofs.rasterize.triangles.Goals as goal
 
@@ -13,12 +12,11 @@ triangle_at-step-requires-clause-by_index c =
 pub returns-in-Stopped : goal.returns-in-Stopped
 returns-in-Stopped c others f H =
     let a = c.args in
-    let work = work_of a.frame (mesh a.vertices.now a.indices.now a.triangle_areas.now) in
     let now = c.loop-t.invariant.1 others f H in
     let R = c.in-Stopped.ensures others now.field now.holds in
     record {
-      says = mesh-halts-says a.frame.width a.threshold work now c.loop-t-test.true R;
-      holds = mesh-halts-holds a.frame.width a.threshold work now c.loop-t-test.true R;
+      says = mesh-halts-says a.frame.width a.threshold _ now c.loop-t-test.true R;
+      holds = mesh-halts-holds a.frame.width a.threshold _ now c.loop-t-test.true R;
     }
 
 pub loop-t-preserved : goal.loop-t-preserved
@@ -35,16 +33,14 @@ loop-t-preserved c =
       },
       λ others f H.
           let now = v.invariant.1 others f H in
-          mesh-on a.frame.width a.threshold (work_of a.frame (mesh a.vertices.now a.indices.now a.triangle_areas.now)) now c.loop-t-test.true
-          (c.in_default.ensures others now.field now.holds),
+          mesh-on a.frame.width a.threshold _ now c.loop-t-test.true (c.in_default.ensures others now.field now.holds),
     )
 
 pub returns : goal.returns
 returns c others f H =
     let a = c.args in
-    let work = work_of a.frame (mesh a.vertices.now a.indices.now a.triangle_areas.now) in
     let now = c.loop-t.invariant.1 others f H in
     record {
-      says = mesh-ends-says a.frame.width a.threshold work now c.loop-t-test.false;
-      holds = mesh-ends-holds a.frame.width a.threshold work now c.loop-t-test.false;
+      says = mesh-ends-says a.frame.width a.threshold _ now c.loop-t-test.false;
+      holds = mesh-ends-holds a.frame.width a.threshold _ now c.loop-t-test.false;
     }
