@@ -3,16 +3,23 @@
 use mathlib.Core.Path.{◌≡◌, refl, sym, ap, subst, ◌∙◌}
 use mathlib.Core.Bool.{Bool, true, false, ◌&&◌}
 use mathlib.Core.List.{List, [], ◌∷◌}
-use Prim.Native.Nat.{ℕ, ◌+◌, ◌*◌, ◌≤◌}
+use Prim.Native.Nat.{ℕ, ◌+◌, ◌-◌, ◌*◌, ◌≤◌, ◌<◌}
 use native.Mathlib.Omega.{arith}
 use lib.Dec.{leb}
+use lib.IntN.{ℤ}
+use lib.Ieee.{Float}
 use lib.ListN.{length}
+use mir.Syntax.{w16, w32}
+use mir.Val.{SFits, to_z, of_z}
+use mir.ValLaws.{to_z-of_z}
 use borrow.Author.Tests.{leb-true}
 use Rattle.grid.specs.declared.Corner.{Corner}
 use Rattle.grid.specs.declared.Grid.{Grid}
 use Rattle.clip.specs.declared.cut.Counts.{Counts}
 use Rattle.clip.specs.declared.frame.Frame.{Frame}
+use Rattle.clip.specs.Slices.{cell_of, edge_of, held_last}
 use Rattle.clip.specs.Work.{Event, insert as offer, and_then, frame_of}
+use Rattle.clip.proofs.Holds.{held-le}
 use Rattle.field.specs.Slots.{Slots}
 use Rattle.field.specs.Field.{Field, Holds, Inserted, insert}
 use Rattle.field.specs.Carrying.{Carried, went, stopped, carry}
@@ -111,3 +118,19 @@ again heads heads' R e = record { sides = R.sides; all = e ∙ R.all }
 pub framed : (g : Grid) (w h : ℕ) {f : Frame} {heads : List ℕ} → f ≡ frame_of g w h → Sides w h → length heads ≡ w * h → Ready f heads
 unfolding frame_of
 framed g w h {f} {heads} e s n = subst (λ (k : Frame). Ready k heads) (sym e) (record { sides = s; all = n })
+
+-- ---- numbers and coordinates that are handed on
+
+-- the cell of a coordinate, which `cell_at` was asked about
+pub cell-read : (start inverse : Float) {i : ℤ} {v w : Float} → SFits w32 i → i ≡ cell_of start inverse v → v ≡ w
+    → to_z w32 (of_z w32 i) ≡ cell_of start inverse w
+cell-read start inverse {i} fits e is = to_z-of_z w32 i fits ∙ e ∙ ap (λ (y : Float). cell_of start inverse y) is
+
+-- where row or column `at` ends, which `edge` was asked about
+pub edge-read : (start size : Float) {i at : ℤ} {end : Float} → SFits w16 i → i ≡ at → end ≡ edge_of start size (to_z w16 (of_z w16 i))
+    → end ≡ edge_of start size at
+edge-read start size {i} fits is e = e ∙ ap (λ (j : ℤ). edge_of start size j) (to_z-of_z w16 i fits ∙ is)
+
+-- the last row or column is one of the grid's
+pub last-inside : (n : ℕ) (i : ℤ) {last : ℕ} → 0 < n → last ≡ held_last (n - 1) i → last + 1 ≤ n
+last-inside n i some e = omega (arith, e, held-le 0 (n - 1) i (omega arith))

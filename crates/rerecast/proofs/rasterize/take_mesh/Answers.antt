@@ -1,38 +1,32 @@
 -- `rasterize::take_mesh` meets its contract: the triangles work on the heads of the grid's columns, and the heads past them stay.
-use mathlib.Core.Path.{sym, ◌∙◌}
+use mathlib.Core.Path.{◌∙◌}
 use mathlib.Core.List.{[], append-nil}
-use native.Mathlib.Omega.{arith}
 use lib.ListN.{take}
-use lib.Seq.{length-take-le}
 use Rattle.clip.specs.Work.{frame_of}
-use Rattle.field.specs.Slots.{Slots, slots}
-use Rattle.field.specs.Meshes.{Mesh, mesh, rasterized}
+use Rattle.field.specs.Slots.{slots}
+use Rattle.field.specs.Meshes.{mesh, rasterized}
 use Rattle.field.proofs.Taking.{first-heads, mesh-ready, mesh-built}
 use Rattle.rerecast.specs.Answer.{said_of}
 use Rattle.rerecast.proofs.Rasterizing.{framed}
 use Rattle.rerecast.proofs.rasterize.take_mesh.Goals as goal
-use Rattle.rerecast.proofs.rasterize.take_mesh.Goals.{Start}
-
-pub columns_of-n-requires : goal.columns_of-n-requires
-columns_of-n-requires c = c.requires.sides.0.few
-
-pub slice_bounds-triangles-end-2 : goal.slice_bounds-triangles-end-2
-slice_bounds-triangles-end-2 c = sym (length-take-le c.columns_of-n.result c.args.heads.now (omega (arith, c.requires.sides.1, c.columns_of-n.ensures)))
 
 pub triangles-ending-requires : goal.triangles-ending-requires
 triangles-ending-requires c =
-    let lent : Slots = let a = c.args in slots a.free.now a.floors.now a.ceilings.now a.areas.now a.nexts.now in
     let a = c.args in
-    let n = c.columns_of-n.ensures in record { ready = (framed a.grid a.width a.height c.frame_of-frame.ensures c.requires.sides.0 (first-heads a.width a.height a.heads.now (lent) c.requires.sides.1 c.requires.held n), c.requires.sides.2, c.requires.sides.3); by_index = mesh-ready a.width a.height a.heads.now (lent) c.requires.sides.1 c.requires.held n }
+    let s = c.requires.sides in
+    let n = c.columns_of-n.ensures in
+    record {
+      ready = (framed a.grid a.width a.height c.frame_of-frame.ensures s.0 (first-heads a.width a.height a.heads.now _ s.1 c.requires.held n), s.2, s.3);
+      by_index = mesh-ready a.width a.height a.heads.now _ s.1 c.requires.held n;
+    }
 
 pub returns : goal.returns
 returns c marks =
-    let lent : Slots = let a = c.args in slots a.free.now a.floors.now a.ceilings.now a.areas.now a.nexts.now in
-    let given : Mesh = mesh c.args.vertices.now c.args.indices.now c.args.triangle_areas.now in
     let a = c.args in
     let n = c.columns_of-n in
     let l = c.triangles-ending.new in
-    mesh-built a.width a.height a.heads.now (lent) c.requires.sides.1 c.requires.held n.ensures (rasterized (frame_of a.grid a.width a.height) (given) a.threshold) marks
+    mesh-built a.width a.height a.heads.now _ c.requires.sides.1 c.requires.held n.ensures
+    (rasterized (frame_of a.grid a.width a.height) (mesh a.vertices.now a.indices.now a.triangle_areas.now) a.threshold) marks
     (said_of c.reply_of.result) l.heads (slots l.free l.floors l.ceilings l.areas l.nexts) c.triangles-ending.auto.heads
     (λ k H.
     let R = c.triangles-ending.ensures [] k (rw (append-nil (take n.result a.heads.now)) H) in

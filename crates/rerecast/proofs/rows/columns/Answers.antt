@@ -1,165 +1,103 @@
 -- `rasterize::columns` meets its contract. The loop's invariant: the columns from k on, of what is left of the part, come on the store as it is now to what all of
 -- them come to. No more insertions were made than columns passed.
-use mathlib.Core.Path.{◌≡◌, refl, ap, ◌∙◌}
-use mathlib.Core.Bool.{not}
-use mathlib.Core.List.{List, ◌++◌}
-use Prim.Native.Nat.{ℕ, ◌+◌}
+use mathlib.Core.Path.{◌≡◌, ap, ◌∙◌}
+use mathlib.Core.Bool.{Bool, not}
+use mathlib.Core.List.{List}
+use Prim.Native.Nat.{ℕ, ◌+◌, ◌≤◌}
 use native.Mathlib.Omega.{arith}
 use lib.IntN.{ℤ}
 use lib.Ieee.{Float}
 use mir.Syntax.{w16}
-use mir.ValLaws.{to_z-of_z}
+use mir.Val.{SFits, to_z, of_z}
 use Rattle.grid.specs.declared.Corner.{Corner}
 use Rattle.clip.specs.declared.cut.Axis.TheVariants.{X}
+use Rattle.clip.specs.declared.frame.Frame.{Frame}
 use Rattle.clip.specs.Cut.{first_of, second_of}
 use Rattle.clip.specs.Arrays.{half}
-use Rattle.clip.specs.Cell.{flat_at, Celled, celled, cell_cut_of}
+use Rattle.clip.specs.Cell.{flat_at, Celled, cell_cut_of}
 use Rattle.clip.specs.Slices.{edge_of}
-use Rattle.clip.specs.Work.{Event, and_then, edge_at, cell_events}
+use Rattle.clip.specs.Work.{and_then, edge_at, cell_events}
 use Rattle.clip.proofs.Flat.{cell-blind, xs-long, ys-long, kept-is}
-use Rattle.field.specs.Slots.{slots}
-use Rattle.field.specs.Field.{Field, Holds}
 use Rattle.field.specs.Working.{numbered, turn_events, turns_to}
-use Rattle.field.proofs.Carrying.{remains-is, remains-as}
+use Rattle.field.proofs.Carrying.{remains-as}
 use Rattle.field.proofs.Slicing.{cells-turn, turns-end, turn-length}
 use Rattle.field.proofs.Cells.{cell-one}
-use Rattle.rerecast.specs.Rasterize.{made_by, Carries}
-use Rattle.rerecast.proofs.Rasterizing.{step-most, went-fits, turn-went, turn_stopped, again}
+use Rattle.rerecast.specs.Rasterize.{made_by, BothPlaces}
+use Rattle.rerecast.proofs.Rasterizing.{step-most, went-fits, turn-went, turn_stopped, edge-read}
 use Rattle.rerecast.proofs.rows.columns.Goals as goal
-use Rattle.rerecast.proofs.rows.columns.Goals.{After-column-step, After-cut_cell-d}
 
--- the cut that a turn makes
-abbrev cut : After-cut_cell-d → Celled
-cut c = celled c.cut_cell-d.result c.cut_cell-d.new.xs c.cut_cell-d.new.ys
+-- a turn's cut is at the end of column k
+cut-is : (f : Frame) (k : ℕ) (upper : Bool) (n : ℕ) (xs ys : List Float) {δ : Celled} {i : ℤ} {end : Float} → SFits w16 i → i ≡ numbered k
+    → end ≡ edge_of f.grid.min.x f.grid.cell_size (to_z w16 (of_z w16 i)) → δ ≡ cell_cut_of upper n end xs ys
+    → δ ≡ cell_cut_of upper n (edge_at f X (numbered k)) xs ys
+cut-is f k upper n xs ys fits is ends e = e ∙ ap (λ (y : Float). cell_cut_of upper n y xs ys) (edge-read f.grid.min.x f.grid.cell_size fits is ends)
 
-cut-is : (c : After-cut_cell-d)
-    → cut c ≡ cell_cut_of c.loop-k.upper c.loop-k.rest (edge_at c.args.job.frame X (numbered c.loop-k.k)) c.loop-k.px c.loop-k.py
-cut-is c =
-    let v = c.loop-k in
-    let f = c.args.job.frame in
-    let n = c.number in
-    c.cut_cell-d.ensures
-    ∙ ap (λ (e : Float). cell_cut_of v.upper v.rest e v.px v.py)
-    (c.edge-end.ensures ∙ ap (λ (at : ℤ). edge_of f.grid.min.x f.grid.cell_size at) (to_z-of_z w16 n.result (record { sfits = n.type_inv }) ∙ n.ensures))
+-- of what is left of the row, the cell's part, and what lies behind the cell
+abbrev part : Frame → ℕ → Bool → ℕ → List Float → List Float → List Corner
+part f k upper n xs ys = first_of X (edge_at f X (numbered k)) (flat_at xs ys (half upper) n)
 
--- what is left of the row, the cell's part of it, and what lies behind the cell
-abbrev left : After-cut_cell-d → List Corner
-left c = flat_at c.loop-k.px c.loop-k.py (half c.loop-k.upper) c.loop-k.rest
+abbrev behind : Frame → ℕ → Bool → ℕ → List Float → List Float → List Corner
+behind f k upper n xs ys = second_of X (edge_at f X (numbered k)) (flat_at xs ys (half upper) n)
 
-abbrev part : After-cut_cell-d → List Corner
-part c = first_of X (edge_at c.args.job.frame X (numbered c.loop-k.k)) (left c)
+-- the work that is left is that of the column and that of the columns behind it
+turns : (f : Frame) (z last k : ℕ) (upper : Bool) (n : ℕ) (xs ys : List Float) {δ : Celled}
+    → δ ≡ cell_cut_of upper n (edge_at f X (numbered k)) xs ys → n ≤ 7 → BothPlaces xs ys → k ≤ last
+    → turns_to X (edge_at f X) (cell_events f z) last k (flat_at xs ys (half upper) n)
+    ≡ and_then (turn_events δ.kept.counts (cell_events f z) k (part f k upper n xs ys))
+    (turns_to X (edge_at f X) (cell_events f z) last (k + 1) (flat_at δ.xs δ.ys (half (not upper)) δ.kept.counts.second))
+turns f z last k upper n xs ys cut few long inside =
+    cells-turn (edge_at f X) (cell_events f z) (cell-blind f z) last k upper n xs ys _ cut few long.all-xs long.all-ys inside
 
-abbrev behind : After-cut_cell-d → List Corner
-behind c = second_of X (edge_at c.args.job.frame X (numbered c.loop-k.k)) (left c)
-
--- the work of the column, and that of the columns behind it
-abbrev near : After-cut_cell-d → List Event
-near c = turn_events c.cut_cell-d.result.counts (cell_events c.args.job.frame c.args.z) c.loop-k.k (part c)
-
-abbrev more : After-cut_cell-d → List Event
-more c =
-    turns_to X (edge_at c.args.job.frame X) (cell_events c.args.job.frame c.args.z) c.args.last (c.loop-k.k + 1)
-    (flat_at (cut c).xs (cut c).ys (half (not c.loop-k.upper)) c.cut_cell-d.result.counts.second)
-
-pub loop-k-init : goal.loop-k-init
-loop-k-init c =
-    let a = c.args in (
-      record { heads-as = refl; floors-as = refl; ceilings-as = refl; areas-as = refl; nexts-as = refl },
-      c.requires.ready.2,
-      c.requires.ready.5,
-      omega arith,
-      λ others f H. remains-is a.job.frame.width a.job.threshold a.job.area a.made refl H,
-    )
-
-pub number-requires : goal.number-requires
-number-requires c = omega (arith, c.loop-k-test.true, c.requires.ready.3, c.requires.ready.0.sides.wide)
-
-pub column-step-requires : goal.column-step-requires
-column-step-requires c =
-    let v = c.loop-k in
-    let k = c.loop-k-test.true in
+pub column-step-requires-clause-by_index : goal.column-step-requires-clause-by_index
+column-step-requires-clause-by_index c =
     let held = c.requires.by_index in
-    let now = v.invariant.4 held.0 held.1.0 held.1.1 in
-    record { ready = (again _ _ c.requires.ready.0 v.invariant.0.heads-as, omega (arith, k, c.requires.ready.3), c.requires.ready.1, omega (arith, k, v.invariant.3, c.requires.ready.3, c.requires.ready.0.sides.wide, c.requires.ready.4)); by_index = (held.0, (now.field, now.holds)) }
+    let now = c.loop-k.invariant.4 held.0 held.1.0 held.1.1 in
+    (held.0, (now.field, now.holds))
 
 pub returns-in_default : goal.returns-in_default
 returns-in_default c others f H =
-    let cut : Celled = celled c.cut_cell-d.result c.cut_cell-d.new.xs c.cut_cell-d.new.ys in
-    let cut-is : cut ≡ cell_cut_of c.loop-k.upper c.loop-k.rest (edge_at c.args.job.frame X (numbered c.loop-k.k)) c.loop-k.px c.loop-k.py = let v = c.loop-k in
-    let f = c.args.job.frame in
-    let n = c.number in
-    c.cut_cell-d.ensures
-    ∙ ap (λ (e : Float). cell_cut_of v.upper v.rest e v.px v.py)
-    (c.edge-end.ensures ∙ ap (λ (at : ℤ). edge_of f.grid.min.x f.grid.cell_size at) (to_z-of_z w16 n.result (record { sfits = n.type_inv }) ∙ n.ensures)) in
-    let left : List Corner = flat_at c.loop-k.px c.loop-k.py (half c.loop-k.upper) c.loop-k.rest in
-    let part : List Corner = first_of X (edge_at c.args.job.frame X (numbered c.loop-k.k)) (left) in
-    let behind : List Corner = second_of X (edge_at c.args.job.frame X (numbered c.loop-k.k)) (left) in
-    let near : List Event = turn_events c.cut_cell-d.result.counts (cell_events c.args.job.frame c.args.z) c.loop-k.k (part) in
-    let more : List Event = turns_to X (edge_at c.args.job.frame X) (cell_events c.args.job.frame c.args.z) c.args.last (c.loop-k.k + 1)
-    (flat_at (cut).xs (cut).ys (half (not c.loop-k.upper)) c.cut_cell-d.result.counts.second) in
-    let turns : turns_to X (edge_at c.args.job.frame X) (cell_events c.args.job.frame c.args.z) c.args.last c.loop-k.k (left) ≡ and_then (near) (more) = let a = c.args in
-    let v = c.loop-k in
-    let f = a.job.frame in
-    cells-turn (edge_at f X) (cell_events f a.z) (cell-blind f a.z) a.last v.k v.upper v.rest v.px v.py (cut) (cut-is) v.invariant.1 v.invariant.2.all-xs v.invariant.2.all-ys c.loop-k-test.true in
-    let came : (others : List ℕ) (f : Field) → Holds (c.loop-k.heads ++ others) (slots c.loop-k.free c.loop-k.floors c.loop-k.ceilings c.loop-k.areas c.loop-k.nexts) f → Carries c.args.job c.loop-k.count f (near) c.column-step.result (c.column-step.new.heads ++ others) (slots c.column-step.new.free c.column-step.new.floors c.column-step.new.ceilings c.column-step.new.areas c.column-step.new.nexts) = λ others f H. let v = c.loop-k in
-    c.column-step.ensures others f (part) (behind) (kept-is v.upper v.rest _ v.px v.py (cut) (cut-is) v.invariant.1) H in
     let v = c.loop-k in
     let a = c.args in
+    let g = a.job.frame in
     let now = v.invariant.4 others f H in
-    turn_stopped a.job (near) (more) (turns) v.count now
-    c.column-step.result _ _ c.in_default.is (came others now.field now.holds)
-
-pub overflow_add-k : goal.overflow_add-k
-overflow_add-k c = record { fits = omega (arith, c.loop-k-test.true, c.requires.ready.3, c.requires.ready.0.sides.wide) }
-
-pub loop-k-smaller : goal.loop-k-smaller
-loop-k-smaller c = omega (arith, c.loop-k-test.true)
+    let cut = cut-is g v.k _ _ _ _ (record { sfits = c.number.type_inv }) c.number.ensures c.edge-end.ensures c.cut_cell-d.ensures in
+    turn_stopped a.job _ _ (turns g a.z a.last v.k _ _ _ _ cut v.invariant.1 v.invariant.2 c.loop-k-test.true)
+    v.count now c.column-step.result _ _ c.in_default.is
+    (c.column-step.ensures others now.field (part g v.k v.upper v.rest v.px v.py) (behind g v.k v.upper v.rest v.px v.py)
+    (kept-is v.upper v.rest _ v.px v.py _ cut v.invariant.1) now.holds)
 
 pub loop-k-preserved : goal.loop-k-preserved
 loop-k-preserved c =
-    let cut : Celled = celled c.cut_cell-d.result c.cut_cell-d.new.xs c.cut_cell-d.new.ys in
-    let cut-is : cut ≡ cell_cut_of c.loop-k.upper c.loop-k.rest (edge_at c.args.job.frame X (numbered c.loop-k.k)) c.loop-k.px c.loop-k.py = let v = c.loop-k in
-    let f = c.args.job.frame in
-    let n = c.number in
-    c.cut_cell-d.ensures
-    ∙ ap (λ (e : Float). cell_cut_of v.upper v.rest e v.px v.py)
-    (c.edge-end.ensures ∙ ap (λ (at : ℤ). edge_of f.grid.min.x f.grid.cell_size at) (to_z-of_z w16 n.result (record { sfits = n.type_inv }) ∙ n.ensures)) in
-    let left : List Corner = flat_at c.loop-k.px c.loop-k.py (half c.loop-k.upper) c.loop-k.rest in
-    let part : List Corner = first_of X (edge_at c.args.job.frame X (numbered c.loop-k.k)) (left) in
-    let behind : List Corner = second_of X (edge_at c.args.job.frame X (numbered c.loop-k.k)) (left) in
-    let near : List Event = turn_events c.cut_cell-d.result.counts (cell_events c.args.job.frame c.args.z) c.loop-k.k (part) in
-    let more : List Event = turns_to X (edge_at c.args.job.frame X) (cell_events c.args.job.frame c.args.z) c.args.last (c.loop-k.k + 1)
-    (flat_at (cut).xs (cut).ys (half (not c.loop-k.upper)) c.cut_cell-d.result.counts.second) in
-    let turns : turns_to X (edge_at c.args.job.frame X) (cell_events c.args.job.frame c.args.z) c.args.last c.loop-k.k (left) ≡ and_then (near) (more) = let a = c.args in
-    let v = c.loop-k in
-    let f = a.job.frame in
-    cells-turn (edge_at f X) (cell_events f a.z) (cell-blind f a.z) a.last v.k v.upper v.rest v.px v.py (cut) (cut-is) v.invariant.1 v.invariant.2.all-xs v.invariant.2.all-ys c.loop-k-test.true in
-    let came : (others : List ℕ) (f : Field) → Holds (c.loop-k.heads ++ others) (slots c.loop-k.free c.loop-k.floors c.loop-k.ceilings c.loop-k.areas c.loop-k.nexts) f → Carries c.args.job c.loop-k.count f (near) c.column-step.result (c.column-step.new.heads ++ others) (slots c.column-step.new.free c.column-step.new.floors c.column-step.new.ceilings c.column-step.new.areas c.column-step.new.nexts) = λ others f H. let v = c.loop-k in
-    c.column-step.ensures others f (part) (behind) (kept-is v.upper v.rest _ v.px v.py (cut) (cut-is) v.invariant.1) H in
     let v = c.loop-k in
     let a = c.args in
-    let f = a.job.frame in
-    let kept = c.column-step.auto in
+    let g = a.job.frame in
+    let d = c.cut_cell-d.result in
+    let step = c.column-step in
     let told = c.in-Went.is in
+    let cell = part g v.k v.upper v.rest v.px v.py in
+    let more = behind g v.k v.upper v.rest v.px v.py in
+    let cut = cut-is g v.k _ _ _ _ (record { sfits = c.number.type_inv }) c.number.ensures c.edge-end.ensures c.cut_cell-d.ensures in
+    let kept = kept-is v.upper v.rest _ v.px v.py _ cut v.invariant.1 in
     let held = c.requires.by_index in
     let now = v.invariant.4 held.0 held.1.0 held.1.1 in
-    let here = came held.0 now.field now.holds in
-    let fits = went-fits a.job v.count now.field c.cut_cell-d.result.counts (cell_events f a.z) v.k (part) c.column-step.result _ told here in
-    let most = step-most a.job v.count now.field (near) c.column-step.result here in (
+    let here = step.ensures held.0 now.field cell more kept now.holds in
+    let fits = went-fits a.job v.count now.field d.counts (cell_events g a.z) v.k cell step.result _ told here in
+    let few = turn-length 1 (omega arith) (cell_events g a.z) (λ x part. cell-one g a.z x part) d.counts v.k cell in
+    let most = step-most a.job v.count now.field _ step.result here in (
       record {
-        heads-as = kept.heads ∙ v.invariant.0.heads-as;
-        floors-as = kept.floors ∙ v.invariant.0.floors-as;
-        ceilings-as = kept.ceilings ∙ v.invariant.0.ceilings-as;
-        areas-as = kept.areas ∙ v.invariant.0.areas-as;
-        nexts-as = kept.nexts ∙ v.invariant.0.nexts-as;
+        heads-as = step.auto.heads ∙ v.invariant.0.heads-as;
+        floors-as = step.auto.floors ∙ v.invariant.0.floors-as;
+        ceilings-as = step.auto.ceilings ∙ v.invariant.0.ceilings-as;
+        areas-as = step.auto.areas ∙ v.invariant.0.areas-as;
+        nexts-as = step.auto.nexts ∙ v.invariant.0.nexts-as;
       },
       fits.1,
-      record { all-xs = xs-long _ _ _ _ _ (cut) (cut-is) ∙ v.invariant.2.all-xs; all-ys = ys-long _ _ _ _ _ (cut) (cut-is) ∙ v.invariant.2.all-ys },
-      omega (arith, most, ap made_by told, turn-length 1 (omega arith) (cell_events f a.z) (λ x cell. cell-one f a.z x cell) c.cut_cell-d.result.counts v.k (part), v.invariant.3),
-      λ others g H.
-          let at = v.invariant.4 others g H in
-          turn-went a.job (near) (more) (turns) v.count at
-          c.column-step.result _ told (came others at.field at.holds),
+      record { all-xs = xs-long _ _ _ _ _ _ cut ∙ v.invariant.2.all-xs; all-ys = ys-long _ _ _ _ _ _ cut ∙ v.invariant.2.all-ys },
+      omega (arith, most, ap made_by told, few, v.invariant.3),
+      λ others f H.
+          let at = v.invariant.4 others f H in
+          turn-went a.job _ _ (turns g a.z a.last v.k _ _ _ _ cut v.invariant.1 v.invariant.2 c.loop-k-test.true)
+          v.count at step.result _ told (step.ensures others at.field cell more kept at.holds),
     )
 
 pub returns : goal.returns
@@ -167,4 +105,5 @@ returns c others f H =
     let v = c.loop-k in
     let a = c.args in
     remains-as a.job.frame.width a.job.threshold a.job.area v.count
-    (turns-end X (edge_at a.job.frame X) (cell_events a.job.frame a.z) a.last v.k (flat_at v.px v.py (half v.upper) v.rest) c.loop-k-test.false) (v.invariant.4 others f H)
+    (turns-end X (edge_at a.job.frame X) (cell_events a.job.frame a.z) a.last v.k (flat_at v.px v.py (half v.upper) v.rest) c.loop-k-test.false)
+    (v.invariant.4 others f H)
