@@ -14,25 +14,26 @@ use Rattle.field.specs.Filters.{ruled, assign, firm}
 use Rattle.field.proofs.Beside.{some-width, row_below, side-below}
 use Rattle.field.proofs.Sweeping.{sweep-begin, sweep-step, sweep-end}
 use Rattle.rerecast.proofs.ledges.clear_columns.Goals as goal
-use Rattle.rerecast.proofs.ledges.clear_columns.Goals.{In-loop-i}
+
+-- the place of one of the grid's columns is on the grid
+on-grid : (x z w h : ℕ) {i n : ℕ} → (0 < w → x < w) → x + z * w ≡ i → i < n → w * h ≡ n → (x < w) × (z < h)
+on-grid x z w h v e l n =
+    let below : x + z * w < w * h = omega (arith, e, l, n) in
+    (v (some-width _ w h below), row_below x z w h below)
 
 pub loop-i-init : goal.loop-i-init
 loop-i-init c = (omega arith, refl, omega (arith, zero-mul c.args.width), (λ l. l), λ free f H. sweep-begin H _)
 
 pub clear_column-requires : goal.clear_column-requires
 clear_column-requires c =
-    let on-grid : (c.loop-i.c.x < c.args.width) × (c.loop-i.c.z < c.args.depth) = let v = c.loop-i.invariant in
-    let l : c.loop-i.c.x + c.loop-i.c.z * c.args.width < c.args.width * c.args.depth = omega (arith, c.loop-i-test.true, v.2, c.requires.depth_value) in
-    (v.3 (some-width _ c.args.width c.args.depth l), row_below c.loop-i.c.x c.loop-i.c.z c.args.width c.args.depth l) in
-    let g = on-grid in
+    let v = c.loop-i.invariant in
+    let g = on-grid c.loop-i.c.x c.loop-i.c.z c.args.width c.args.depth v.3 v.2 c.loop-i-test.true c.requires.depth_value.0 in
     record { x_lt_width = (g.0, g.1, c.requires.depth_value.0, c.requires.depth_value.1); areas_len = c.loop-i.invariant.1 ∙ c.requires.by_index.1.1.sized.areas; by_index = (c.requires.by_index.0, _, c.requires.by_index.1) }
 
 pub next_cell-c-requires : goal.next_cell-c-requires
 next_cell-c-requires c =
-    let on-grid : (c.loop-i.c.x < c.args.width) × (c.loop-i.c.z < c.args.depth) = let v = c.loop-i.invariant in
-    let l : c.loop-i.c.x + c.loop-i.c.z * c.args.width < c.args.width * c.args.depth = omega (arith, c.loop-i-test.true, v.2, c.requires.depth_value) in
-    (v.3 (some-width _ c.args.width c.args.depth l), row_below c.loop-i.c.x c.loop-i.c.z c.args.width c.args.depth l) in
-    let g = on-grid in
+    let v = c.loop-i.invariant in
+    let g = on-grid c.loop-i.c.x c.loop-i.c.z c.args.width c.args.depth v.3 v.2 c.loop-i-test.true c.requires.depth_value.0 in
     (g.0, omega (arith, side-below c.args.width c.args.depth (omega arith), c.requires.depth_value), omega (arith, g.1, side-below c.args.depth c.args.width (omega arith), mul_comm c.args.width c.args.depth, c.requires.depth_value))
 
 pub overflow_add-i : goal.overflow_add-i

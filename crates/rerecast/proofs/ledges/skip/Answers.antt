@@ -1,26 +1,23 @@
 -- `skip` meets its contract: whatever slot the loop has come to is a cursor.
-use Prim.Native.Nat.{◌<◌, ◌≤◌}
-use lib.ListN.{length}
 use native.Mathlib.Omega.{arith}
-use Rattle.field.specs.Slots.{none, contents}
+use Rattle.field.specs.Slots.{contents}
 use Rattle.field.proofs.Chains.{chain-slot, chain-cons, chain-less}
 use Rattle.field.proofs.Upward.{roof-of}
 use Rattle.field.proofs.Cursors.{cursor-next}
 use Rattle.rerecast.proofs.ledges.skip.Goals as goal
-use Rattle.rerecast.proofs.ledges.skip.Goals.{In-loop-at}
 
 pub loop-at-init : goal.loop-at-init
 loop-at-init c = (c.requires.by_index, λ ceilings areas whole C. C)
 
 pub offset_bounds-nexts-i : goal.offset_bounds-nexts-i
 offset_bounds-nexts-i c =
-    let slot : (c.loop-at.at < length c.args.nexts.now) × (length c.args.nexts.now ≤ none) = let k = c.loop-at.invariant.0 in (chain-slot k.0 k.1 c.loop-at-test.true, k.1.few) in
-    omega (arith, slot)
+    let k = c.loop-at.invariant.0 in
+    omega (arith, chain-slot k.0 k.1 c.loop-at-test.true, k.1.few)
 
 pub bounds-nexts-i : goal.bounds-nexts-i
 bounds-nexts-i c =
-    let slot : (c.loop-at.at < length c.args.nexts.now) × (length c.args.nexts.now ≤ none) = let k = c.loop-at.invariant.0 in (chain-slot k.0 k.1 c.loop-at-test.true, k.1.few) in
-    omega (arith, slot)
+    let k = c.loop-at.invariant.0 in
+    omega (arith, chain-slot k.0 k.1 c.loop-at-test.true, k.1.few)
 
 pub roof_of-requires : goal.roof_of-requires
 roof_of-requires c =
