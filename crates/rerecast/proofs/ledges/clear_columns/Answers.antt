@@ -4,14 +4,14 @@ use mathlib.Core.Path.{◌≡◌, refl, subst, ◌∙◌}
 use mathlib.Core.List.{List, [], map}
 use lib.ListN.{get_or}
 use native.Mathlib.Numerals.{add-one}
-use native.Mathlib.Nat.{zero-mul, mul_comm}
+use native.Mathlib.Nat.{zero-mul}
 use native.Mathlib.Omega.{arith}
 use Rattle.field.specs.Slots.{contents, span_at}
 use Rattle.field.specs.Field.{spans}
 use Rattle.field.specs.Inner.{Chain}
 use Rattle.field.specs.Beside.{beside}
 use Rattle.field.specs.Filters.{ruled, assign, firm}
-use Rattle.field.proofs.Beside.{some-width, row_below, side-below}
+use Rattle.field.proofs.Beside.{some-width, row_below}
 use Rattle.field.proofs.Sweeping.{sweep-begin, sweep-step, sweep-end}
 use Rattle.rerecast.proofs.ledges.clear_columns.Goals as goal
 
@@ -29,18 +29,6 @@ clear_column-requires c =
     let v = c.loop-i.invariant in
     let g = on-grid c.loop-i.c.x c.loop-i.c.z c.args.width c.args.depth v.3 v.2 c.loop-i-test.true c.requires.depth_value.0 in
     record { x_lt_width = (g.0, g.1, c.requires.depth_value.0, c.requires.depth_value.1); areas_len = c.loop-i.invariant.1 ∙ c.requires.by_index.1.1.sized.areas; by_index = (c.requires.by_index.0, _, c.requires.by_index.1) }
-
-pub next_cell-c-requires : goal.next_cell-c-requires
-next_cell-c-requires c =
-    let v = c.loop-i.invariant in
-    let g = on-grid c.loop-i.c.x c.loop-i.c.z c.args.width c.args.depth v.3 v.2 c.loop-i-test.true c.requires.depth_value.0 in
-    (g.0, omega (arith, side-below c.args.width c.args.depth (omega arith), c.requires.depth_value), omega (arith, g.1, side-below c.args.depth c.args.width (omega arith), mul_comm c.args.width c.args.depth, c.requires.depth_value))
-
-pub overflow_add-i : goal.overflow_add-i
-overflow_add-i c = omega arith
-
-pub loop-i-smaller : goal.loop-i-smaller
-loop-i-smaller c = omega arith
 
 pub loop-i-preserved : goal.loop-i-preserved
 loop-i-preserved c =

@@ -12,15 +12,6 @@ use Rattle.field.proofs.Cursors.{cursors-first, hollow-first, around-inside}
 use Rattle.field.proofs.Ledging.{ledging-start, ledging-serves, ledging-step}
 use Rattle.rerecast.proofs.ledges.clear_inner.Goals as goal
 
-pub offset_bounds-heads-column : goal.offset_bounds-heads-column
-offset_bounds-heads-column c = omega (arith, c.requires.column_nonzero)
-
-pub bounds-heads-column : goal.bounds-heads-column
-bounds-heads-column c = omega (arith, c.requires.column_nonzero)
-
-pub sides_of-sides-requires : goal.sides_of-sides-requires
-sides_of-sides-requires c = let p = c.requires.column_nonzero in (p.0, p.1, p.2, p.3)
-
 pub hollow_of-hollow-requires : goal.hollow_of-hollow-requires
 hollow_of-hollow-requires c =
     let p = c.requires in

@@ -20,9 +20,6 @@ overflow_mul-column c = omega (arith, column_below c.args.c.x c.args.c.z c.args.
 pub overflow_add-column : goal.overflow_add-column
 overflow_add-column c = omega (arith, column_below c.args.c.x c.args.c.z c.args.width c.args.depth c.requires.x_lt_width)
 
-pub on_rim-requires : goal.on_rim-requires
-on_rim-requires c = let p = c.requires.x_lt_width in (p.0, p.1, p.3)
-
 pub offset_bounds-heads-column : goal.offset_bounds-heads-column
 offset_bounds-heads-column c = omega (arith, column_below c.args.c.x c.args.c.z c.args.width c.args.depth c.requires.x_lt_width)
 

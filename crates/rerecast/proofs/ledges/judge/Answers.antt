@@ -21,9 +21,6 @@ decided : (st : Stand) {hollow : ℕ} (at : ℕ → List Span) (w i : ℕ) {stee
     → steep ≡ tells st (looked_at st at (around w i)) → Inside (around w i) → hollow ≡ hollow_of at (around w i) → ledge st at (around w i) ≡ steep
 decided st at w i low e inside h = ledge-look st at (around w i) inside (rw (← h) low) ∙ sym e
 
-pub returns-then-area-eq0 : goal.returns-then-area-eq0
-returns-then-area-eq0 c = λ areas at w i k. (k, λ inside h. rw c.if-area-eq0.true (zero-anyway (ledge _ at (around w i))))
-
 pub returns-then-wide-need : goal.returns-then-wide-need
 returns-then-wide-need c =
     λ areas at w i k.
@@ -36,14 +33,6 @@ returns-then-need-wide c =
       λ inside h.
           rw (ledge-gap (stand_of c.args.st) at (i - 1) ((i + w) ∷ (i + 1) ∷ (i - w) ∷ []) inside (omega (arith, c.if-wide-need.false, c.wide-3.ensures, c.wide-2.ensures, c.wide.ensures)) (omega (arith, c.if-need-wide.true, c.wide-4.ensures, c.wide-2.ensures, c.wide.ensures))),
     )
-
-pub follow-further-requires : goal.follow-further-requires
-follow-further-requires c =
-    let p = c.requires in
-    record {
-      floors_len = p.floors_len.0;
-      by_index = rw (c.wide.ensures, c.wide-2.ensures) (_, p.by_index.0, p.by_index.1, p.by_index.2, p.by_index.3, p.by_index.4);
-    }
 
 pub looks_steep-requires : goal.looks_steep-requires
 looks_steep-requires c =

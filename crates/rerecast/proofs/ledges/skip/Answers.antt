@@ -6,9 +6,6 @@ use Rattle.field.proofs.Upward.{roof-of}
 use Rattle.field.proofs.Cursors.{cursor-next}
 use Rattle.rerecast.proofs.ledges.skip.Goals as goal
 
-pub loop-at-init : goal.loop-at-init
-loop-at-init c = (c.requires.by_index, λ ceilings areas whole C. C)
-
 pub offset_bounds-nexts-i : goal.offset_bounds-nexts-i
 offset_bounds-nexts-i c =
     let k = c.loop-at.invariant.0 in
@@ -49,6 +46,3 @@ loop-at-preserved c =
           cursor-next (c.loop-at.invariant.1 ceilings areas whole C) c.loop-at-test.true
           (λ tl h. rw (roof-of (contents c.args.floors.now ceilings areas) tl h) (omega (arith, rw i at c.roof_of.ensures, c.wide.ensures, c.if-need-wide.false))),
     )
-
-pub returns : goal.returns
-returns c = record { by_index_2 = λ ceilings areas whole C. c.loop-at.invariant.1 ceilings areas whole C; under = λ n. absurd (n c.loop-at-test.false) }

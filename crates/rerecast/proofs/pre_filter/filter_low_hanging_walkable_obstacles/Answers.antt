@@ -1,30 +1,13 @@
 -- `filter_low_hanging_walkable_obstacles` meets its contract: the tests of every call, and past them the filter on the field that is lent.
-use mathlib.Core.Path.{sym}
-use lib.ListN.{length}
-use lib.Seq.{length-take-le}
-use Rattle.field.specs.Filters.{low_obstacles}
-use Rattle.rerecast.proofs.Admitted.{call-granted, call-refused, call-ready}
-use Rattle.rerecast.proofs.Filtered.{filtered-refused, filtered-done}
+use Rattle.rerecast.proofs.Admitted.{call-ready}
+use Rattle.rerecast.proofs.Filtered.{filtered-done}
 use Rattle.rerecast.proofs.pre_filter.filter_low_hanging_walkable_obstacles.Goals as goal
 
 pub columns_of-n-requires : goal.columns_of-n-requires
 columns_of-n-requires c = (call-ready _ _ _ _ _ c.admit-admission.ensures c.in-Granted.is).0.1
 
-pub slice_bounds-raise_columns-end : goal.slice_bounds-raise_columns-end
-slice_bounds-raise_columns-end c =
-    sym (length-take-le _ c.args.heads.now (rw c.columns_of-n.ensures (call-ready _ _ _ _ _ c.admit-admission.ensures c.in-Granted.is).0.0))
-
-pub raise_columns-requires : goal.raise_columns-requires
-raise_columns-requires c =
-    (c.args.free.now, c.args.floors.now, rw c.columns_of-n.ensures (call-ready _ _ _ _ _ c.admit-admission.ensures c.in-Granted.is).1)
-
-pub returns-in-Refused : goal.returns-in-Refused
-returns-in-Refused c =
-    filtered-refused c.args.grid (low_obstacles c.args.walkable_climb) _ c.admit-admission.new.marks c.in-Refused.r
-    (call-refused _ _ _ _ _ c.admit-admission.ensures c.in-Refused.is)
-
 pub returns-in-Granted : goal.returns-in-Granted
 returns-in-Granted c =
-    filtered-done c.args.grid (low_obstacles c.args.walkable_climb) _ c.admit-admission.new.marks (length c.args.heads.now) c.raise_columns.new.areas
-    (call-granted _ _ _ _ _ c.admit-admission.ensures c.in-Granted.is)
+    filtered-done _ _ _ _ _ c.raise_columns.new.areas
+    c.in-Granted.ensures
     ((rw c.columns_of-n.ensures at c.raise_columns.ensures) c.args.free.now c.args.floors.now)
