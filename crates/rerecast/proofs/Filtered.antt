@@ -1,13 +1,11 @@
 -- A call of a filter: refused by a test, or past them all.
-use mathlib.Core.Path.{◌≡◌, refl}
+use mathlib.Core.Path.{refl}
 use mathlib.Core.List.{List}
-use Prim.Native.Nat.{ℕ, ◌+◌, ◌*◌, ◌<◌, ◌≤◌}
-use native.Mathlib.Omega.{arith}
+use Prim.Native.Nat.{ℕ, ◌*◌}
 use lib.ListN.{length, take}
 use Rattle.replies.specs.Said.{just}
 use Rattle.grid.specs.declared.Grid.{Grid}
 use Rattle.grid.specs.Grid.{columns}
-use Rattle.grid.proofs.Places.{cell_below}
 use Rattle.field.specs.Field.{Field, Holds}
 use Rattle.field.specs.Store.{Store, store, Fitting, left}
 use Rattle.field.specs.Filters.{Filters, Filtered}
@@ -32,7 +30,3 @@ module _ (g : Grid) (filter : Field → Field) (s : Store) (marks' : List ℕ) w
       let next = rw (A.1.0.0, A.1.0.1) at holds in
       admits-past left g s (Filters (columns g) filter s) (left (just 0) (store s.heads (with_areas s.slots areas') marks')) A.0 A.1.1.fits.0 k
       (k.0, k.1, record { says = refl; holds = next k.0 k.1; beyond = refl; marks = A.1.1.zeros })
-
--- a place on the grid has one of the columns
-pub column_below : (x z w h : ℕ) {n : ℕ} → (x < w) × (z < h) × (w * h ≡ n) × (w * h ≤ 1048576) → x + z * w < n
-column_below x z w h p = omega (arith, cell_below x z w h p.0 p.1, p.2)

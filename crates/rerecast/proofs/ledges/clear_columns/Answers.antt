@@ -1,5 +1,5 @@
 -- `clear_columns` meets its contract: after each column, what is left of them ends as the whole would.
-use Prim.Native.Nat.{ℕ, ◌+◌, ◌*◌, ◌<◌}
+use Prim.Native.Nat.{ℕ}
 use mathlib.Core.Path.{◌≡◌, refl, subst, ◌∙◌}
 use mathlib.Core.List.{List, [], map}
 use lib.ListN.{get_or}
@@ -11,15 +11,9 @@ use Rattle.field.specs.Field.{spans}
 use Rattle.field.specs.Inner.{Chain}
 use Rattle.field.specs.Beside.{beside}
 use Rattle.field.specs.Filters.{ruled, assign, firm}
-use Rattle.field.proofs.Beside.{some-width, row_below}
 use Rattle.field.proofs.Sweeping.{sweep-begin, sweep-step, sweep-end}
+use Rattle.rerecast.proofs.Columns.{place_on_grid}
 use Rattle.rerecast.proofs.ledges.clear_columns.Goals as goal
-
--- the place of one of the grid's columns is on the grid
-on-grid : (x z w h : ℕ) {i n : ℕ} → (0 < w → x < w) → x + z * w ≡ i → i < n → w * h ≡ n → (x < w) × (z < h)
-on-grid x z w h v e l n =
-    let below : x + z * w < w * h = omega (arith, e, l, n) in
-    (v (some-width _ w h below), row_below x z w h below)
 
 pub loop-i-init : goal.loop-i-init
 loop-i-init c = (omega arith, refl, omega (arith, zero-mul c.args.width), (λ l. l), λ free f H. sweep-begin H _)
@@ -27,7 +21,7 @@ loop-i-init c = (omega arith, refl, omega (arith, zero-mul c.args.width), (λ l.
 pub clear_column-requires : goal.clear_column-requires
 clear_column-requires c =
     let v = c.loop-i.invariant in
-    let g = on-grid c.loop-i.c.x c.loop-i.c.z c.args.width c.args.depth v.3 v.2 c.loop-i-test.true c.requires.depth_value.0 in
+    let g = place_on_grid v.3 v.2 c.loop-i-test.true c.requires.depth_value.0 in
     record { x_lt_width = (g.0, g.1, c.requires.depth_value.0, c.requires.depth_value.1); areas_len = c.loop-i.invariant.1 ∙ c.requires.by_index.1.1.sized.areas; by_index = (c.requires.by_index.0, _, c.requires.by_index.1) }
 
 pub loop-i-preserved : goal.loop-i-preserved

@@ -11,26 +11,26 @@ use Rattle.field.proofs.Holding.{column-chain, column-distinct}
 use Rattle.field.proofs.Beside.{beside-off, beside-around, inner_below, rim-not}
 use Rattle.field.proofs.Assigning.{ruled-agree}
 use Rattle.field.proofs.Looking.{firm-off}
-use Rattle.rerecast.proofs.Filtered.{column_below}
+use Rattle.rerecast.proofs.Columns.{column_below}
 use Rattle.rerecast.proofs.ledges.clear_spans.Goals as goal
 
 pub overflow_mul-column : goal.overflow_mul-column
-overflow_mul-column c = omega (arith, column_below c.args.c.x c.args.c.z c.args.width c.args.depth c.requires.x_lt_width)
+overflow_mul-column c = omega (arith, column_below c.requires.x_lt_width)
 
 pub overflow_add-column : goal.overflow_add-column
-overflow_add-column c = omega (arith, column_below c.args.c.x c.args.c.z c.args.width c.args.depth c.requires.x_lt_width)
+overflow_add-column c = omega (arith, column_below c.requires.x_lt_width)
 
 pub offset_bounds-heads-column : goal.offset_bounds-heads-column
-offset_bounds-heads-column c = omega (arith, column_below c.args.c.x c.args.c.z c.args.width c.args.depth c.requires.x_lt_width)
+offset_bounds-heads-column c = omega (arith, column_below c.requires.x_lt_width)
 
 pub bounds-heads-column : goal.bounds-heads-column
-bounds-heads-column c = column_below c.args.c.x c.args.c.z c.args.width c.args.depth c.requires.x_lt_width
+bounds-heads-column c = column_below c.requires.x_lt_width
 
 pub clear_all-requires : goal.clear_all-requires
 clear_all-requires c =
     let H = c.requires.by_index.2.1 in
     let i = c.args.c.x + c.args.c.z * c.args.width in
-    record { areas_len = c.requires.areas_len; by_index = (column_at c.requires.by_index.2.0 i, (column-chain H i (column_below c.args.c.x c.args.c.z c.args.width c.args.depth c.requires.x_lt_width), column-distinct H i)) }
+    record { areas_len = c.requires.areas_len; by_index = (column_at c.requires.by_index.2.0 i, (column-chain H i (column_below c.requires.x_lt_width), column-distinct H i)) }
 
 pub clear_inner-requires : goal.clear_inner-requires
 clear_inner-requires c =

@@ -2,7 +2,7 @@
 use mathlib.Core.Path.{sym, ◌∙◌}
 use lib.Seq.{length-take-le}
 use Rattle.rerecast.proofs.Admitted.{call-ready}
-use Rattle.rerecast.proofs.Filtered.{filtered-done}
+use Rattle.rerecast.proofs.Filtered.{filtered-refused, filtered-done}
 use Rattle.rerecast.proofs.pre_filter.filter_ledge_spans.Goals as goal
 
 pub columns_of-n-requires : goal.columns_of-n-requires
@@ -12,6 +12,9 @@ pub clear_columns-requires-clause-depth_value : goal.clear_columns-requires-clau
 clear_columns-requires-clause-depth_value c =
     let r = (call-ready _ _ _ _ _ c.admit-admission.ensures c.in-Granted.is).0 in
     rw (c.index.ensures, c.index-in-Granted.ensures) (rw c.columns_of-n.ensures (sym (length-take-le _ c.args.heads.now r.0)), r.1)
+
+pub returns-in-Refused : goal.returns-in-Refused
+returns-in-Refused c = filtered-refused _ _ _ _ _ c.in-Refused.ensures
 
 pub returns-in-Granted : goal.returns-in-Granted
 returns-in-Granted c =

@@ -1,13 +1,15 @@
 -- `filter_low_hanging_walkable_obstacles` meets its contract: the tests of every call, and past them the filter on the field that is lent.
 use Rattle.rerecast.proofs.Admitted.{call-ready}
-use Rattle.rerecast.proofs.Filtered.{filtered-done}
+use Rattle.rerecast.proofs.Filtered.{filtered-refused, filtered-done}
 use Rattle.rerecast.proofs.pre_filter.filter_low_hanging_walkable_obstacles.Goals as goal
 
 pub columns_of-n-requires : goal.columns_of-n-requires
 columns_of-n-requires c = (call-ready _ _ _ _ _ c.admit-admission.ensures c.in-Granted.is).0.1
 
+pub returns-in-Refused : goal.returns-in-Refused
+returns-in-Refused c = filtered-refused _ _ _ _ _ c.in-Refused.ensures
+
 pub returns-in-Granted : goal.returns-in-Granted
 returns-in-Granted c =
-    filtered-done _ _ _ _ _ c.raise_columns.new.areas
-    c.in-Granted.ensures
+    filtered-done _ _ _ _ _ c.raise_columns.new.areas c.in-Granted.ensures
     ((rw c.columns_of-n.ensures at c.raise_columns.ensures) c.args.free.now c.args.floors.now)
