@@ -5,7 +5,7 @@ use Rattle.field.proofs.Passing.{passing-start, passing_step, passing-stop, pass
 use Rattle.rerecast.proofs.insertion.pass.Goals as goal
 
 pub loop-at-init : goal.loop-at-init
-loop-at-init c = (passing-start c.args.ceilings.now c.args.nexts.now c.args.head c.args.floor c.requires.by_index.0 c.requires.by_index.1, c.requires.ceilings_len)
+loop-at-init c = (passing-start _ _ _ _ c.requires.by_index.0 c.requires.by_index.1, c.requires.ceilings_len)
 
 pub offset_bounds-ceilings-i : goal.offset_bounds-ceilings-i
 offset_bounds-ceilings-i c =
@@ -31,10 +31,15 @@ bounds-nexts-i c =
     omega (arith, chain-slot p.left p.here c.loop-at-test.true, p.here.few)
 
 pub loop-at-smaller : goal.loop-at-smaller
-loop-at-smaller c = let p = c.loop-at.invariant.0 in let k = chain-cons p.left p.here c.loop-at-test.true in rw c.index-i.ensures (chain-less p.left k.0 p.here k.1 k.2)
+loop-at-smaller c =
+    let p = c.loop-at.invariant.0 in
+    let k = chain-cons p.left p.here c.loop-at-test.true in
+    rw c.index-i.ensures (chain-less p.left k.0 p.here k.1 k.2)
 
 pub loop-at-preserved : goal.loop-at-preserved
-loop-at-preserved c = let i = c.index-i.ensures in (rw i (passing_step c.loop-at.invariant.0 c.loop-at-test.true (rw i at c.if-ceilings-i.false)), c.loop-at.invariant.1)
+loop-at-preserved c =
+    let i = c.index-i.ensures in
+    (rw i (passing_step c.loop-at.invariant.0 c.loop-at-test.true (rw i at c.if-ceilings-i.false)), c.loop-at.invariant.1)
 
 pub returns : goal.returns
 returns c = passing-end c.loop-at.invariant.0 c.loop-at-test.false

@@ -1,16 +1,8 @@
 -- `clear_columns` meets its contract: after each column, what is left of them ends as the whole would.
-use Prim.Native.Nat.{ℕ}
-use mathlib.Core.Path.{◌≡◌, refl, subst, ◌∙◌}
-use mathlib.Core.List.{List, [], map}
-use lib.ListN.{get_or}
+use mathlib.Core.Path.{refl, ◌∙◌}
 use native.Mathlib.Numerals.{add-one}
 use native.Mathlib.Nat.{zero-mul}
 use native.Mathlib.Omega.{arith}
-use Rattle.field.specs.Slots.{contents, span_at}
-use Rattle.field.specs.Field.{spans}
-use Rattle.field.specs.Inner.{Chain}
-use Rattle.field.specs.Beside.{beside}
-use Rattle.field.specs.Filters.{ruled, assign, firm}
 use Rattle.field.proofs.Sweeping.{sweep-begin, sweep-step, sweep-end}
 use Rattle.rerecast.proofs.Columns.{place_on_grid}
 use Rattle.rerecast.proofs.ledges.clear_columns.Goals as goal
@@ -22,7 +14,11 @@ pub clear_column-requires : goal.clear_column-requires
 clear_column-requires c =
     let v = c.loop-i.invariant in
     let g = place_on_grid v.3 v.2 c.loop-i-test.true c.requires.depth_value.0 in
-    record { x_lt_width = (g.0, g.1, c.requires.depth_value.0, c.requires.depth_value.1); areas_len = c.loop-i.invariant.1 ∙ c.requires.by_index.1.1.sized.areas; by_index = (c.requires.by_index.0, _, c.requires.by_index.1) }
+    record {
+      x_lt_width = (g.0, g.1, c.requires.depth_value.0, c.requires.depth_value.1);
+      areas_len = v.1 ∙ c.requires.by_index.1.1.sized.areas;
+      by_index = (c.requires.by_index.0, _, c.requires.by_index.1);
+    }
 
 pub loop-i-preserved : goal.loop-i-preserved
 loop-i-preserved c =
@@ -35,7 +31,7 @@ loop-i-preserved c =
       λ free f H.
           rw add-one
           (sweep-step H _ c.loop-i.i c.loop-i-test.true (v.4 free f H)
-          (subst (λ (n : ℕ). (ss : List ℕ) → Chain a.nexts.now (get_or a.heads.now n 0) ss → c.clear_column.new.areas ≡ assign c.loop-i.areas ss (ruled (λ below s above. firm a.height a.climb (spans f) (beside a.width a.depth n) s above) [] (map (span_at (contents a.floors.now a.ceilings.now c.loop-i.areas)) ss))) v.2 (c.clear_column.ensures free a.areas.now f H))),
+          (rw v.2 at c.clear_column.ensures free a.areas.now f H)),
     )
 
 pub returns : goal.returns

@@ -16,11 +16,11 @@ pub hollow_of-hollow-requires : goal.hollow_of-hollow-requires
 hollow_of-hollow-requires c =
     let p = c.requires in
     let H = p.by_index.2.1 in
-    let at = spans p.by_index.2.0 in
-    let k = around c.args.width c.args.column in
     let here = contents c.args.floors.now c.args.ceilings.now p.by_index.1 in
-    let low = cursors-first H c.args.width c.args.column (omega (arith, p.column_nonzero)) p.column_nonzero.2 p.column_nonzero.3 (omega (arith, p.column_nonzero)) in
-    (_, H.sized.floors, c.args.ceilings.now, p.by_index.1, 0, at, c.args.width, c.args.column, subst (λ (rs : List ℕ). Cursors here c.args.nexts.now 0 at k rs) (sym c.sides_of-sides.ensures) low)
+    let at = spans p.by_index.2.0 in
+    let low = cursors-first H c.args.width c.args.column (omega arith) p.column_nonzero.2 p.column_nonzero.3 (omega arith) in
+    let served = subst (λ (rs : List ℕ). Cursors here c.args.nexts.now 0 at (around c.args.width c.args.column) rs) (sym c.sides_of-sides.ensures) low in
+    (_, H.sized.floors, c.args.ceilings.now, p.by_index.1, 0, at, c.args.width, c.args.column, served)
 
 pub loop-at-init : goal.loop-at-init
 loop-at-init c =
@@ -80,7 +80,10 @@ loop-at-preserved c =
     let p = c.loop-at.invariant free arf f H in
     let j = (rw (c.roof_of-roof.ensures, i) at c.judge-judged.ensures) arf (spans f) c.args.width c.args.column (ledging-serves p n) in
     let inside = around-inside c.args.width c.args.column (length c.args.heads.now) k.2 k.3 (omega (arith, k.4)) in
-    let hollow-is = c.hollow_of-hollow.ensures ∙ ap (λ (rs : List ℕ). greatest (map (roof_at c.args.floors.now) rs)) c.sides_of-sides.ensures ∙ hollow-first H c.args.width c.args.column (omega arith) k.2 k.3 (omega arith) in
+    let hollow-is =
+      c.hollow_of-hollow.ensures
+      ∙ ap (λ (rs : List ℕ). greatest (map (roof_at c.args.floors.now) rs)) c.sides_of-sides.ensures
+      ∙ hollow-first H c.args.width c.args.column (omega arith) k.2 k.3 (omega arith) in
     rw (c.change_byte.ensures, i) (ledging-step p n (j.1 inside hollow-is) j.0)
 
 pub returns : goal.returns

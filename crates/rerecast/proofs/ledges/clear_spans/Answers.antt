@@ -30,34 +30,37 @@ pub clear_all-requires : goal.clear_all-requires
 clear_all-requires c =
     let H = c.requires.by_index.2.1 in
     let i = c.args.c.x + c.args.c.z * c.args.width in
-    record { areas_len = c.requires.areas_len; by_index = (column_at c.requires.by_index.2.0 i, (column-chain H i (column_below c.requires.x_lt_width), column-distinct H i)) }
+    record {
+      areas_len = c.requires.areas_len;
+      by_index = (column_at c.requires.by_index.2.0 i, (column-chain H i (column_below c.requires.x_lt_width), column-distinct H i));
+    }
 
 pub clear_inner-requires : goal.clear_inner-requires
 clear_inner-requires c =
     let a = c.args in
     let r = rim-not a.width a.depth a.c.x a.c.z (rw c.if-on_rim.false at c.on_rim.ensures) in
     let k = inner_below a.width a.depth a.c.x a.c.z r.0 r.1 r.2 r.3 in
-    record { column_nonzero = (k.0, k.1, omega (arith, k.2, c.requires.x_lt_width.2), omega (arith, k.3, c.requires.x_lt_width.2), omega (arith, c.requires.x_lt_width)); areas_len = c.requires.areas_len; by_index = c.requires.by_index }
+    record {
+      column_nonzero = (k.0, k.1, omega (arith, k.2, c.requires.x_lt_width), omega (arith, k.3, c.requires.x_lt_width), omega (arith, c.requires.x_lt_width));
+      areas_len = c.requires.areas_len;
+      by_index = c.requires.by_index;
+    }
 
 pub returns-then-on_rim : goal.returns-then-on_rim
 returns-then-on_rim c =
     λ free areas₀ f H ss k.
     let a = c.args in
-    let x = a.c.x in
-    let z = a.c.z in
-    let on-rim = rw c.if-on_rim.true at c.on_rim.ensures in
-    let off = beside-off a.width a.depth x z c.requires.x_lt_width.0 on-rim in
+    let off = beside-off a.width a.depth a.c.x a.c.z c.requires.x_lt_width.0 (rw c.if-on_rim.true at c.on_rim.ensures) in
     c.clear_all.ensures a.floors.now a.ceilings.now ss k
     ∙ ap (assign a.areas.now ss)
-    (ruled-agree _ _ (λ below s above. sym (firm-off a.height a.climb (spans f) (beside a.width a.depth (x + z * a.width)) off s above)) [] (map (span_at (contents a.floors.now a.ceilings.now a.areas.now)) ss))
+    (ruled-agree _ _ (λ below s above. sym (firm-off a.height a.climb (spans f) (beside a.width a.depth (a.c.x + a.c.z * a.width)) off s above)) [] _)
 
 pub returns-else-on_rim : goal.returns-else-on_rim
 returns-else-on_rim c =
     λ free areas₀ f H ss k.
     let a = c.args in
-    let x = a.c.x in
-    let z = a.c.z in
-    let r = rim-not a.width a.depth x z (rw c.if-on_rim.false at c.on_rim.ensures) in
-    let same = beside-around a.width a.depth x z r.0 r.1 r.2 r.3 in
+    let r = rim-not a.width a.depth a.c.x a.c.z (rw c.if-on_rim.false at c.on_rim.ensures) in
+    let same = beside-around a.width a.depth a.c.x a.c.z r.0 r.1 r.2 r.3 in
+    let column = map (span_at (contents a.floors.now a.ceilings.now a.areas.now)) ss in
     c.clear_inner.ensures free areas₀ f H ss k
-    ∙ ap (λ (ks : List ℕ). assign a.areas.now ss (ruled (λ below s above. firm a.height a.climb (spans f) ks s above) [] (map (span_at (contents a.floors.now a.ceilings.now a.areas.now)) ss))) (sym same)
+    ∙ ap (λ (ks : List ℕ). assign a.areas.now ss (ruled (λ below s above. firm a.height a.climb (spans f) ks s above) [] column)) (sym same)

@@ -24,14 +24,14 @@ decided st at w i low e inside h = ledge-look st at (around w i) inside (rw (←
 pub returns-then-wide-need : goal.returns-then-wide-need
 returns-then-wide-need c =
     λ areas at w i k.
-    (k, λ inside h. rw (ledge-low (stand_of c.args.st) at (around w i) inside (omega (arith, c.if-wide-need.true, c.wide-3.ensures, c.wide-2.ensures, c.wide.ensures))))
+    (k, λ inside h. rw (ledge-low (stand_of c.args.st) at (around w i) inside (omega arith)))
 
 pub returns-then-need-wide : goal.returns-then-need-wide
 returns-then-need-wide c =
     λ areas at w i k. (
       k,
       λ inside h.
-          rw (ledge-gap (stand_of c.args.st) at (i - 1) ((i + w) ∷ (i + 1) ∷ (i - w) ∷ []) inside (omega (arith, c.if-wide-need.false, c.wide-3.ensures, c.wide-2.ensures, c.wide.ensures)) (omega (arith, c.if-need-wide.true, c.wide-4.ensures, c.wide-2.ensures, c.wide.ensures))),
+          rw (ledge-gap (stand_of c.args.st) at (i - 1) ((i + w) ∷ (i + 1) ∷ (i - w) ∷ []) inside (omega arith) (omega arith)),
     )
 
 pub looks_steep-requires : goal.looks_steep-requires
@@ -41,19 +41,19 @@ looks_steep-requires c =
     record {
       floors_len = c.requires.floors_len;
       by_index = (p.0, p.1, p.2, p.3, moved c.args.ceilings.now p.0 p.1 p.2 p.3 p.4);
-      height_bound = (omega (arith, c.if-wide-need.false, c.wide-3.ensures, c.wide-2.ensures, c.wide.ensures), rw (c.wide.ensures, c.wide-2.ensures) at c.follow-further.ensures.all_under);
+      height_bound = (omega arith, rw (c.wide.ensures, c.wide-2.ensures) at c.follow-further.ensures.all_under);
     }
 
 pub returns-then-looks_steep : goal.returns-then-looks_steep
 returns-then-looks_steep c =
     λ areas at w i k.
     let moved = (rw (c.wide.ensures, c.wide-2.ensures) at c.follow-further.ensures.by_index_2) c.args.ceilings.now areas at w i k in
-    let low : c.args.hollow < c.args.st.top + c.args.st.height = omega (arith, c.if-need-wide.false, c.wide-4.ensures, c.wide-2.ensures, c.wide.ensures) in
+    let low : c.args.hollow < c.args.st.top + c.args.st.height = omega arith in
     (moved, λ inside h. rw (decided (stand_of c.args.st) at w i low (c.looks_steep.ensures areas at w i moved) inside h, c.if-looks_steep.true))
 
 pub returns : goal.returns
 returns c =
     λ areas at w i k.
     let moved = (rw (c.wide.ensures, c.wide-2.ensures) at c.follow-further.ensures.by_index_2) c.args.ceilings.now areas at w i k in
-    let low : c.args.hollow < c.args.st.top + c.args.st.height = omega (arith, c.if-need-wide.false, c.wide-4.ensures, c.wide-2.ensures, c.wide.ensures) in
+    let low : c.args.hollow < c.args.st.top + c.args.st.height = omega arith in
     (moved, λ inside h. rw (decided (stand_of c.args.st) at w i low (c.looks_steep.ensures areas at w i moved) inside h, c.if-looks_steep.false))

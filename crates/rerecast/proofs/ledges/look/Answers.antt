@@ -1,13 +1,12 @@
 -- `look` meets its contract: looking at what is left of the column ends as looking at the whole, so it may stop at a drop and at a span that is too high.
 use native.Mathlib.Omega.{arith}
-use mathlib.Core.Path.{sym, ◌∙◌}
+use mathlib.Core.Path.{sym, ap, ◌∙◌}
 use mathlib.Core.List.{map}
 use borrow.Author.Tests.{not-true, not-false, leb-true, leb-false}
 use Rattle.field.specs.Slots.{contents, span_at}
 use Rattle.field.proofs.Looking.{looked-drop}
 use Rattle.field.proofs.LookingUp.{looking-slot, looking-next, looking-less, looking-step, looking-drop, looking-stop, looking-end}
 use Rattle.rerecast.specs.PreFilter.{stand_of, view_of}
-use mathlib.Core.Path.{ap}
 use mathlib.Core.Bool.{not}
 use Rattle.rerecast.proofs.ledges.look.Goals as goal
 
@@ -44,11 +43,15 @@ pub see-v-requires : goal.see-v-requires
 see-v-requires c =
     let i = c.index-i.ensures in
     let room = leb-true _ _ (rw i at (sym c.has_room.ensures) ∙ not-false _ (ap not c.if-not-has_room.false)) in
-    record { drop_value = c.loop-at.invariant.1; height_bound = (c.requires.height_bound.0, rw (c.roof_of-floor.ensures, i) (c.loop-at.invariant.0.under c.loop-at-test.true), rw i room) }
+    record {
+      drop_value = c.loop-at.invariant.1;
+      height_bound = (c.requires.height_bound.0, rw (c.roof_of-floor.ensures, i) (c.loop-at.invariant.0.under c.loop-at-test.true), rw i room);
+    }
 
 pub returns-then-v : goal.returns-then-v
 returns-then-v c =
-    let further = looking-step c.loop-at.invariant.0 c.loop-at-test.true (omega (arith, c.requires.height_bound.0, c.well_formed)) (rw (c.roof_of-floor.ensures, c.index-i.ensures) at c.see-v.ensures) in
+    let seen = rw (c.roof_of-floor.ensures, c.index-i.ensures) at c.see-v.ensures in
+    let further = looking-step c.loop-at.invariant.0 c.loop-at-test.true (omega arith) seen in
     looking-drop further c.if-v.true
 
 pub loop-at-smaller : goal.loop-at-smaller
@@ -56,7 +59,8 @@ loop-at-smaller c = rw c.index-i.ensures (looking-less c.loop-at.invariant.0 c.l
 
 pub loop-at-preserved : goal.loop-at-preserved
 loop-at-preserved c =
-    let further = looking-step c.loop-at.invariant.0 c.loop-at-test.true (omega (arith, c.requires.height_bound.0, c.well_formed)) (rw (c.roof_of-floor.ensures, c.index-i.ensures) at c.see-v.ensures) in
+    let seen = rw (c.roof_of-floor.ensures, c.index-i.ensures) at c.see-v.ensures in
+    let further = looking-step c.loop-at.invariant.0 c.loop-at-test.true (omega arith) seen in
     rw c.index-i.ensures (further, c.if-v.false)
 
 pub returns : goal.returns

@@ -27,7 +27,7 @@ roof_of-requires c =
 pub returns-then-need-wide : goal.returns-then-need-wide
 returns-then-need-wide c =
     let i = c.index-i.ensures in
-    record { by_index_2 = λ ceilings areas whole C. c.loop-at.invariant.1 ceilings areas whole C; under = λ n. omega (arith, rw i at c.roof_of.ensures, c.wide.ensures, c.if-need-wide.true) }
+    record { by_index_2 = c.loop-at.invariant.1; under = λ n. omega (arith, rw i at c.roof_of.ensures) }
 
 pub loop-at-smaller : goal.loop-at-smaller
 loop-at-smaller c =
@@ -44,5 +44,5 @@ loop-at-preserved c =
       (k.0, k.2),
       λ ceilings areas whole C.
           cursor-next (c.loop-at.invariant.1 ceilings areas whole C) c.loop-at-test.true
-          (λ tl h. rw (roof-of (contents c.args.floors.now ceilings areas) tl h) (omega (arith, rw i at c.roof_of.ensures, c.wide.ensures, c.if-need-wide.false))),
+          (λ tl h. rw (roof-of (contents c.args.floors.now ceilings areas) tl h) (omega (arith, rw i at c.roof_of.ensures))),
     )
