@@ -2,11 +2,8 @@
 use mathlib.Core.Path.{refl}
 use mathlib.Core.List.{[]}
 use native.Mathlib.Omega.{arith}
-use Rattle.field.proofs.Upward.{upward-start, upward-slot, upward-less, upward-step, upward-end}
+use Rattle.field.proofs.Upward.{upward-slot, upward-less, upward-step, upward-end}
 use Rattle.rerecast.proofs.ledges.clear_all.Goals as goal
-
-pub loop-at-init : goal.loop-at-init
-loop-at-init c = λ floors ceilings. upward-start _ floors ceilings _ _ _ c.requires.by_index.0 c.requires.by_index.1.0 c.requires.by_index.1.1
 
 pub bounds-areas-i : goal.bounds-areas-i
 bounds-areas-i c = omega (arith, upward-slot (c.loop-at.invariant [] []) c.loop-at-test.true, (c.loop-at.invariant [] []).size)

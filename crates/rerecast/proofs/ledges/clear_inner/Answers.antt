@@ -52,21 +52,17 @@ bounds-ceilings-i c =
 pub bounds-areas-i : goal.bounds-areas-i
 bounds-areas-i c =
     let up = (c.loop-at.invariant _ _ _ c.requires.by_index.2.1).up in
-    omega (arith, upward-slot up c.loop-at-test.true, up.size, c.requires.areas_len)
+    omega (arith, upward-slot up c.loop-at-test.true, up.size)
 
-pub judge-judged-requires : goal.judge-judged-requires
-judge-judged-requires c =
+pub judge-judged-requires-clause-by_index : goal.judge-judged-requires-clause-by_index
+judge-judged-requires-clause-by_index c =
     let p = c.requires.by_index in
-    let H = p.2.1 in
-    record {
-      floors_len = (H.sized.floors, H.sized.ceilings);
-      by_index = (p.1, spans p.2.0, c.args.width, c.args.column, rw c.index-i.ensures (ledging-serves (c.loop-at.invariant _ _ _ H) c.loop-at-test.true));
-    }
+    (p.1, spans p.2.0, c.args.width, c.args.column, rw c.index-i.ensures (ledging-serves (c.loop-at.invariant _ _ _ p.2.1) c.loop-at-test.true))
 
 pub change_byte-requires : goal.change_byte-requires
 change_byte-requires c =
     let up = (c.loop-at.invariant _ _ _ c.requires.by_index.2.1).up in
-    (omega (arith, upward-slot up c.loop-at-test.true, up.size, c.requires.areas_len), refl)
+    (omega (arith, upward-slot up c.loop-at-test.true, up.size), refl)
 
 pub loop-at-smaller : goal.loop-at-smaller
 loop-at-smaller c = rw c.index-i.ensures (upward-less (c.loop-at.invariant _ _ _ c.requires.by_index.2.1).up c.loop-at-test.true)

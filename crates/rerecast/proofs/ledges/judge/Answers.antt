@@ -1,7 +1,7 @@
 -- `judge` meets its contract: each answer is what the test for a ledge says where it is given.
 use Prim.Native.Nat.{ℕ, ◌+◌, ◌-◌, ◌<◌}
-use mathlib.Core.Path.{◌≡◌, refl, sym, ◌∙◌}
-use mathlib.Core.Bool.{Bool, true, false, cond}
+use mathlib.Core.Path.{◌≡◌, sym, ◌∙◌}
+use mathlib.Core.Bool.{Bool}
 use mathlib.Core.List.{List, [], ◌∷◌}
 use native.Mathlib.Omega.{arith}
 use Rattle.field.specs.declared.Span.{Span}
@@ -12,10 +12,6 @@ use Rattle.field.proofs.Looking.{ledge-low, ledge-gap, ledge-look}
 use Rattle.rerecast.specs.PreFilter.{stand_of}
 use Rattle.rerecast.proofs.ledges.judge.Goals as goal
 
-zero-anyway : (b : Bool) → ◌≡◌ {A = ℕ} 0 (cond b 0 0)
-zero-anyway true = refl
-zero-anyway false = refl
-
 -- where the hollow is no gap, the look around decides
 decided : (st : Stand) {hollow : ℕ} (at : ℕ → List Span) (w i : ℕ) {steep : Bool} → hollow < st.top + st.height
     → steep ≡ tells st (looked_at st at (around w i)) → Inside (around w i) → hollow ≡ hollow_of at (around w i) → ledge st at (around w i) ≡ steep
@@ -23,8 +19,7 @@ decided st at w i low e inside h = ledge-look st at (around w i) inside (rw (←
 
 pub returns-then-wide-need : goal.returns-then-wide-need
 returns-then-wide-need c =
-    λ areas at w i k.
-    (k, λ inside h. rw (ledge-low (stand_of c.args.st) at (around w i) inside (omega arith)))
+    λ areas at w i k. (k, λ inside h. rw (ledge-low (stand_of c.args.st) at (around w i) inside (omega arith)))
 
 pub returns-then-need-wide : goal.returns-then-need-wide
 returns-then-need-wide c =
@@ -48,12 +43,10 @@ pub returns-then-looks_steep : goal.returns-then-looks_steep
 returns-then-looks_steep c =
     λ areas at w i k.
     let moved = (rw (c.wide.ensures, c.wide-2.ensures) at c.follow-further.ensures.by_index_2) c.args.ceilings.now areas at w i k in
-    let low : c.args.hollow < c.args.st.top + c.args.st.height = omega arith in
-    (moved, λ inside h. rw (decided (stand_of c.args.st) at w i low (c.looks_steep.ensures areas at w i moved) inside h, c.if-looks_steep.true))
+    (moved, λ inside h. rw (decided (stand_of c.args.st) at w i (omega arith) (c.looks_steep.ensures areas at w i moved) inside h, c.if-looks_steep.true))
 
 pub returns : goal.returns
 returns c =
     λ areas at w i k.
     let moved = (rw (c.wide.ensures, c.wide-2.ensures) at c.follow-further.ensures.by_index_2) c.args.ceilings.now areas at w i k in
-    let low : c.args.hollow < c.args.st.top + c.args.st.height = omega arith in
-    (moved, λ inside h. rw (decided (stand_of c.args.st) at w i low (c.looks_steep.ensures areas at w i moved) inside h, c.if-looks_steep.false))
+    (moved, λ inside h. rw (decided (stand_of c.args.st) at w i (omega arith) (c.looks_steep.ensures areas at w i moved) inside h, c.if-looks_steep.false))

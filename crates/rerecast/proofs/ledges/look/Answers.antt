@@ -2,7 +2,7 @@
 use native.Mathlib.Omega.{arith}
 use mathlib.Core.Path.{sym, ap, ◌∙◌}
 use mathlib.Core.List.{map}
-use borrow.Author.Tests.{not-true, not-false, leb-true, leb-false}
+use borrow.Author.Tests.{not-true, leb-false}
 use Rattle.field.specs.Slots.{contents, span_at}
 use Rattle.field.proofs.Looking.{looked-drop}
 use Rattle.field.proofs.LookingUp.{looking-slot, looking-next, looking-less, looking-step, looking-drop, looking-stop, looking-end}
@@ -38,15 +38,6 @@ roof_of-floor-requires c =
     λ n.
     let i = c.index-i.ensures in
     rw i (omega (arith, looking-next c.loop-at.invariant.0 c.loop-at-test.true (rw i at n)))
-
-pub see-v-requires : goal.see-v-requires
-see-v-requires c =
-    let i = c.index-i.ensures in
-    let room = leb-true _ _ (rw i at (sym c.has_room.ensures) ∙ not-false _ (ap not c.if-not-has_room.false)) in
-    record {
-      drop_value = c.loop-at.invariant.1;
-      height_bound = (c.requires.height_bound.0, rw (c.roof_of-floor.ensures, i) (c.loop-at.invariant.0.under c.loop-at-test.true), rw i room);
-    }
 
 pub returns-then-v : goal.returns-then-v
 returns-then-v c =

@@ -28,18 +28,6 @@ all_seen st at w i s k fa fb fc fd =
     (cursor-look k.1.1.0 st _ _ (omega arith) (fc k.1.1.0.rest k.1.1.0.chain))
     (cursor-look k.1.1.1.0 st _ _ (omega arith) (fd k.1.1.1.0.rest k.1.1.1.0.chain))
 
-pub look-a-requires : goal.look-a-requires
-look-a-requires c = let p = c.requires in let k = p.by_index.4.0 in record { floors_len = p.floors_len; by_index = (k.rest, (k.chain, k.climbs)); height_bound = (p.height_bound.0, p.height_bound.1.0) }
-
-pub look-b-requires : goal.look-b-requires
-look-b-requires c = let p = c.requires in let k = p.by_index.4.1.0 in record { floors_len = p.floors_len; by_index = (k.rest, (k.chain, k.climbs)); height_bound = (p.height_bound.0, p.height_bound.1.1) }
-
-pub look-c-requires : goal.look-c-requires
-look-c-requires c = let p = c.requires in let k = p.by_index.4.1.1.0 in record { floors_len = p.floors_len; by_index = (k.rest, (k.chain, k.climbs)); height_bound = (p.height_bound.0, p.height_bound.1.2) }
-
-pub look-d-requires : goal.look-d-requires
-look-d-requires c = let p = c.requires in let k = p.by_index.4.1.1.1.0 in record { floors_len = p.floors_len; by_index = (k.rest, (k.chain, k.climbs)); height_bound = (p.height_bound.0, p.height_bound.1.3) }
-
 pub returns-then-d : goal.returns-then-d
 returns-then-d c =
     λ areas at w i k.

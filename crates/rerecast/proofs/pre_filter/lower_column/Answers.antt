@@ -1,11 +1,8 @@
 -- `lower_column` meets its contract: what is left of the column ends as the whole would.
 use native.Mathlib.Omega.{arith}
 use Rattle.field.specs.Slots.{contents}
-use Rattle.field.proofs.Upward.{roof-of, upward-start, upward-slot, upward-next, upward-less, upward-step, upward-end}
+use Rattle.field.proofs.Upward.{roof-of, upward-slot, upward-next, upward-less, upward-step, upward-end}
 use Rattle.rerecast.proofs.pre_filter.lower_column.Goals as goal
-
-pub loop-at-init : goal.loop-at-init
-loop-at-init c = upward-start _ _ _ _ _ _ c.requires.by_index.0 c.requires.by_index.1.0 c.requires.by_index.1.1
 
 pub offset_bounds-nexts-i : goal.offset_bounds-nexts-i
 offset_bounds-nexts-i c = omega (arith, upward-slot c.loop-at.invariant c.loop-at-test.true)
