@@ -77,9 +77,9 @@ loop-at-preserved c =
     let j = (rw (c.roof_of-roof.ensures, i) at c.judge-judged.ensures) arf (spans f) c.args.width c.args.column (ledging-serves p n) in
     let inside = around-inside c.args.width c.args.column (length c.args.heads.now) k.2 k.3 (omega (arith, k.4)) in
     let hollow-is =
-      c.hollow_of-hollow.ensures
-      ∙ ap (λ (rs : List ℕ). greatest (map (roof_at c.args.floors.now) rs)) c.sides_of-sides.ensures
-      ∙ hollow-first H c.args.width c.args.column (omega arith) k.2 k.3 (omega arith) in
+    c.hollow_of-hollow.ensures
+    ∙ ap (λ (rs : List ℕ). greatest (map (roof_at c.args.floors.now) rs)) c.sides_of-sides.ensures
+    ∙ hollow-first H c.args.width c.args.column (omega arith) k.2 k.3 (omega arith) in
     rw (c.change_byte.ensures, i) (ledging-step p n (j.1 inside hollow-is) j.0)
 
 pub returns : goal.returns
