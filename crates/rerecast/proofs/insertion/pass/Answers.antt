@@ -1,8 +1,11 @@
 -- `pass` meets its contract. The loop's invariant: what is left of the column ends as the whole would. The measure is how many slots are left.
 use native.Mathlib.Omega.{arith}
 use Rattle.field.proofs.Chains.{chain-slot, chain-cons, chain-less}
-use Rattle.field.proofs.Passing.{passing_step, passing-stop, passing-end}
+use Rattle.field.proofs.Passing.{passing-start, passing_step, passing-stop, passing-end}
 use Rattle.rerecast.proofs.insertion.pass.Goals as goal
+
+pub loop-at-init : goal.loop-at-init
+loop-at-init c = (passing-start _ _ _ _ c.requires.by_index.0 c.requires.by_index.1, c.requires.ceilings_len)
 
 pub offset_bounds-ceilings-i : goal.offset_bounds-ceilings-i
 offset_bounds-ceilings-i c =

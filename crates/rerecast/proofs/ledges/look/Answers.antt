@@ -5,7 +5,7 @@ use mathlib.Core.List.{map}
 use borrow.Author.Tests.{not-true, leb-false}
 use Rattle.field.specs.Slots.{contents, span_at}
 use Rattle.field.proofs.Looking.{looked-drop}
-use Rattle.field.proofs.LookingUp.{looking-slot, looking-next, looking-less, looking-step, looking-drop, looking-stop, looking-end}
+use Rattle.field.proofs.LookingUp.{looking-start, looking-slot, looking-next, looking-less, looking-step, looking-drop, looking-stop, looking-end}
 use Rattle.rerecast.specs.PreFilter.{stand_of, view_of}
 use mathlib.Core.Bool.{not}
 use Rattle.rerecast.proofs.ledges.look.Goals as goal
@@ -15,6 +15,9 @@ returns-then-start c =
     λ areas ss k.
     let a = c.args in
     sym (looked-drop (stand_of a.st) (view_of a.start) (map (span_at (contents a.floors.now a.ceilings.now areas)) ss) c.if-start.true)
+
+pub loop-at-init : goal.loop-at-init
+loop-at-init c = (looking-start _ _ c.requires.by_index.0 c.requires.by_index.1.0 c.requires.by_index.1.1 c.requires.height_bound.1, c.if-start.false)
 
 pub offset_bounds-ceilings-i : goal.offset_bounds-ceilings-i
 offset_bounds-ceilings-i c = omega (arith, looking-slot c.loop-at.invariant.0 c.loop-at-test.true)

@@ -16,7 +16,8 @@ use Rattle.rerecast.specs.declared.ledges.Sides.{Sides}
 use Rattle.rerecast.proofs.ledges.looks_steep.Goals as goal
 
 -- the looks one after another, each from its cursor up, are the look at the four columns
-all_seen : {k : Contents} {nx : List ℕ} (st : Stand) (at : ℕ → List Span) (w i : ℕ) (s : Sides) {a b c d : View} → Cursors k nx (st.top + st.height) at (around w i) (sides_of s)
+all_seen : {k : Contents} {nx : List ℕ} (st : Stand) (at : ℕ → List Span) (w i : ℕ) (s : Sides) {a b c d : View}
+    → Cursors k nx (st.top + st.height) at (around w i) (sides_of s)
     → ((ss : List ℕ) → Chain nx s.west ss → a ≡ looked st (outset st) (map (span_at k) ss))
     → ((ss : List ℕ) → Chain nx s.north ss → b ≡ looked st a (map (span_at k) ss))
     → ((ss : List ℕ) → Chain nx s.east ss → c ≡ looked st b (map (span_at k) ss))
