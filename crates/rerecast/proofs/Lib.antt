@@ -8,3 +8,4 @@ pub mod CompactCall
 pub mod Filtered
 pub mod Rasterizing
 pub mod MeshAdmitted
+pub mod Columns

@@ -1,31 +1,18 @@
 -- `clear_all` meets its contract: what is left of the column ends as the whole would.
 use mathlib.Core.Path.{refl}
-use Prim.Native.Nat.{◌<◌, ◌≤◌}
 use mathlib.Core.List.{[]}
-use lib.ListN.{length}
 use native.Mathlib.Omega.{arith}
-use Rattle.field.specs.Slots.{none}
-use Rattle.field.proofs.Upward.{upward-start, upward-slot, upward-less, upward-step, upward-end}
+use Rattle.field.proofs.Upward.{upward-slot, upward-less, upward-step, upward-end}
 use Rattle.rerecast.proofs.ledges.clear_all.Goals as goal
-use Rattle.rerecast.proofs.ledges.clear_all.Goals.{In-loop-at}
-
-pub loop-at-init : goal.loop-at-init
-loop-at-init c = λ floors ceilings. upward-start _ floors ceilings _ _ _ c.requires.by_index.0 c.requires.by_index.1.0 c.requires.by_index.1.1
 
 pub bounds-areas-i : goal.bounds-areas-i
-bounds-areas-i c =
-    let slot : (c.loop-at.at < length c.args.nexts.now) × (length c.args.nexts.now ≤ none) = upward-slot (c.loop-at.invariant [] []) c.loop-at-test.true in
-    omega (arith, slot, (c.loop-at.invariant [] []).size)
+bounds-areas-i c = omega (arith, upward-slot (c.loop-at.invariant [] []) c.loop-at-test.true, (c.loop-at.invariant [] []).size)
 
 pub offset_bounds-nexts-i : goal.offset_bounds-nexts-i
-offset_bounds-nexts-i c =
-    let slot : (c.loop-at.at < length c.args.nexts.now) × (length c.args.nexts.now ≤ none) = upward-slot (c.loop-at.invariant [] []) c.loop-at-test.true in
-    omega (arith, slot)
+offset_bounds-nexts-i c = omega (arith, upward-slot (c.loop-at.invariant [] []) c.loop-at-test.true)
 
 pub bounds-nexts-i : goal.bounds-nexts-i
-bounds-nexts-i c =
-    let slot : (c.loop-at.at < length c.args.nexts.now) × (length c.args.nexts.now ≤ none) = upward-slot (c.loop-at.invariant [] []) c.loop-at-test.true in
-    omega (arith, slot)
+bounds-nexts-i c = omega (arith, upward-slot (c.loop-at.invariant [] []) c.loop-at-test.true)
 
 pub loop-at-smaller : goal.loop-at-smaller
 loop-at-smaller c = rw c.index-i.ensures (upward-less (c.loop-at.invariant [] []) c.loop-at-test.true)

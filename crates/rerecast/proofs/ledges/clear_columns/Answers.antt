@@ -1,45 +1,9 @@
 -- `clear_columns` meets its contract: after each column, what is left of them ends as the whole would.
-use Prim.Native.Nat.{ℕ, ◌+◌, ◌*◌, ◌<◌}
-use mathlib.Core.Path.{◌≡◌, refl, subst, ◌∙◌}
-use mathlib.Core.List.{List, [], map}
-use lib.ListN.{get_or}
+use mathlib.Core.Path.{◌∙◌}
 use native.Mathlib.Numerals.{add-one}
-use native.Mathlib.Nat.{zero-mul, mul_comm}
 use native.Mathlib.Omega.{arith}
-use Rattle.field.specs.Slots.{contents, span_at}
-use Rattle.field.specs.Field.{spans}
-use Rattle.field.specs.Inner.{Chain}
-use Rattle.field.specs.Beside.{beside}
-use Rattle.field.specs.Filters.{ruled, assign, firm}
-use Rattle.field.proofs.Beside.{some-width, row_below, side-below}
-use Rattle.field.proofs.Sweeping.{sweep-begin, sweep-step, sweep-end}
+use Rattle.field.proofs.Sweeping.{sweep-step}
 use Rattle.rerecast.proofs.ledges.clear_columns.Goals as goal
-use Rattle.rerecast.proofs.ledges.clear_columns.Goals.{In-loop-i}
-
-pub loop-i-init : goal.loop-i-init
-loop-i-init c = (omega arith, refl, omega (arith, zero-mul c.args.width), (λ l. l), λ free f H. sweep-begin H _)
-
-pub clear_column-requires : goal.clear_column-requires
-clear_column-requires c =
-    let on-grid : (c.loop-i.c.x < c.args.width) × (c.loop-i.c.z < c.args.depth) = let v = c.loop-i.invariant in
-    let l : c.loop-i.c.x + c.loop-i.c.z * c.args.width < c.args.width * c.args.depth = omega (arith, c.loop-i-test.true, v.2, c.requires.depth_value) in
-    (v.3 (some-width _ c.args.width c.args.depth l), row_below c.loop-i.c.x c.loop-i.c.z c.args.width c.args.depth l) in
-    let g = on-grid in
-    record { x_lt_width = (g.0, g.1, c.requires.depth_value.0, c.requires.depth_value.1); areas_len = c.loop-i.invariant.1 ∙ c.requires.by_index.1.1.sized.areas; by_index = (c.requires.by_index.0, _, c.requires.by_index.1) }
-
-pub next_cell-c-requires : goal.next_cell-c-requires
-next_cell-c-requires c =
-    let on-grid : (c.loop-i.c.x < c.args.width) × (c.loop-i.c.z < c.args.depth) = let v = c.loop-i.invariant in
-    let l : c.loop-i.c.x + c.loop-i.c.z * c.args.width < c.args.width * c.args.depth = omega (arith, c.loop-i-test.true, v.2, c.requires.depth_value) in
-    (v.3 (some-width _ c.args.width c.args.depth l), row_below c.loop-i.c.x c.loop-i.c.z c.args.width c.args.depth l) in
-    let g = on-grid in
-    (g.0, omega (arith, side-below c.args.width c.args.depth (omega arith), c.requires.depth_value), omega (arith, g.1, side-below c.args.depth c.args.width (omega arith), mul_comm c.args.width c.args.depth, c.requires.depth_value))
-
-pub overflow_add-i : goal.overflow_add-i
-overflow_add-i c = omega arith
-
-pub loop-i-smaller : goal.loop-i-smaller
-loop-i-smaller c = omega arith
 
 pub loop-i-preserved : goal.loop-i-preserved
 loop-i-preserved c =
@@ -52,8 +16,5 @@ loop-i-preserved c =
       λ free f H.
           rw add-one
           (sweep-step H _ c.loop-i.i c.loop-i-test.true (v.4 free f H)
-          (subst (λ (n : ℕ). (ss : List ℕ) → Chain a.nexts.now (get_or a.heads.now n 0) ss → c.clear_column.new.areas ≡ assign c.loop-i.areas ss (ruled (λ below s above. firm a.height a.climb (spans f) (beside a.width a.depth n) s above) [] (map (span_at (contents a.floors.now a.ceilings.now c.loop-i.areas)) ss))) v.2 (c.clear_column.ensures free a.areas.now f H))),
+          (rw v.2 at c.clear_column.ensures free a.areas.now f H)),
     )
-
-pub returns : goal.returns
-returns c = λ free f H. sweep-end H _ (omega arith) (c.loop-i.invariant.4 free f H)

@@ -1,23 +1,14 @@
 -- `look` meets its contract: looking at what is left of the column ends as looking at the whole, so it may stop at a drop and at a span that is too high.
-use Prim.Native.Nat.{◌+◌, ◌<◌, ◌≤◌}
-use lib.ListN.{length, get_or}
 use native.Mathlib.Omega.{arith}
-use mathlib.Core.Path.{sym, ◌∙◌}
+use mathlib.Core.Path.{sym, ap, ◌∙◌}
 use mathlib.Core.List.{map}
-use borrow.Author.Tests.{not-true, not-false, leb-true, leb-false}
-use Rattle.field.specs.Slots.{none, contents, span_at}
-use Rattle.field.specs.Walkable.{open_top}
+use borrow.Author.Tests.{not-true, leb-false}
+use Rattle.field.specs.Slots.{contents, span_at}
 use Rattle.field.proofs.Looking.{looked-drop}
-use Rattle.field.proofs.LookingUp.{LookingUp, looking-start, looking-slot, looking-next, looking-less, looking-step, looking-drop, looking-stop, looking-end}
+use Rattle.field.proofs.LookingUp.{looking-start, looking-slot, looking-next, looking-less, looking-step, looking-drop, looking-stop, looking-end}
 use Rattle.rerecast.specs.PreFilter.{stand_of, view_of}
-use mathlib.Core.Path.{ap}
 use mathlib.Core.Bool.{not}
 use Rattle.rerecast.proofs.ledges.look.Goals as goal
-use Rattle.rerecast.proofs.ledges.look.Goals.{After-see-v, In-loop-at, Start}
-
--- where the agent stands there is room under the open top
-low : (s : Start) → s.args.st.top + s.args.st.height ≤ open_top
-low s = omega (arith, s.requires.height_bound.0, s.well_formed)
 
 pub returns-then-start : goal.returns-then-start
 returns-then-start c =
@@ -29,14 +20,10 @@ pub loop-at-init : goal.loop-at-init
 loop-at-init c = (looking-start _ _ c.requires.by_index.0 c.requires.by_index.1.0 c.requires.by_index.1.1 c.requires.height_bound.1, c.if-start.false)
 
 pub offset_bounds-ceilings-i : goal.offset_bounds-ceilings-i
-offset_bounds-ceilings-i c =
-    let slot : (c.loop-at.at < length c.args.nexts.now) × (length c.args.nexts.now ≤ none) = looking-slot c.loop-at.invariant.0 c.loop-at-test.true in
-    omega (arith, slot)
+offset_bounds-ceilings-i c = omega (arith, looking-slot c.loop-at.invariant.0 c.loop-at-test.true)
 
 pub bounds-ceilings-i : goal.bounds-ceilings-i
-bounds-ceilings-i c =
-    let slot : (c.loop-at.at < length c.args.nexts.now) × (length c.args.nexts.now ≤ none) = looking-slot c.loop-at.invariant.0 c.loop-at-test.true in
-    omega (arith, slot)
+bounds-ceilings-i c = omega (arith, looking-slot c.loop-at.invariant.0 c.loop-at-test.true)
 
 pub returns-then-not-has_room : goal.returns-then-not-has_room
 returns-then-not-has_room c =
@@ -44,14 +31,10 @@ returns-then-not-has_room c =
     (leb-false _ _ (rw c.index-i.ensures at (sym c.has_room.ensures) ∙ not-true _ (ap not c.if-not-has_room.true)))
 
 pub offset_bounds-nexts-i : goal.offset_bounds-nexts-i
-offset_bounds-nexts-i c =
-    let slot : (c.loop-at.at < length c.args.nexts.now) × (length c.args.nexts.now ≤ none) = looking-slot c.loop-at.invariant.0 c.loop-at-test.true in
-    omega (arith, slot)
+offset_bounds-nexts-i c = omega (arith, looking-slot c.loop-at.invariant.0 c.loop-at-test.true)
 
 pub bounds-nexts-i : goal.bounds-nexts-i
-bounds-nexts-i c =
-    let slot : (c.loop-at.at < length c.args.nexts.now) × (length c.args.nexts.now ≤ none) = looking-slot c.loop-at.invariant.0 c.loop-at-test.true in
-    omega (arith, slot)
+bounds-nexts-i c = omega (arith, looking-slot c.loop-at.invariant.0 c.loop-at-test.true)
 
 pub roof_of-floor-requires : goal.roof_of-floor-requires
 roof_of-floor-requires c =
@@ -59,25 +42,19 @@ roof_of-floor-requires c =
     let i = c.index-i.ensures in
     rw i (omega (arith, looking-next c.loop-at.invariant.0 c.loop-at-test.true (rw i at n)))
 
-pub see-v-requires : goal.see-v-requires
-see-v-requires c =
-    let i = c.index-i.ensures in
-    let room = leb-true _ _ (rw i at (sym c.has_room.ensures) ∙ not-false _ (ap not c.if-not-has_room.false)) in
-    record { drop_value = c.loop-at.invariant.1; height_bound = (c.requires.height_bound.0, rw (c.roof_of-floor.ensures, i) (c.loop-at.invariant.0.under c.loop-at-test.true), rw i room) }
-
 pub returns-then-v : goal.returns-then-v
 returns-then-v c =
-    let low : c.args.st.top + c.args.st.height ≤ open_top = omega (arith, c.requires.height_bound.0, c.well_formed) in
-    let further : LookingUp c.args.floors.now c.args.ceilings.now c.args.nexts.now c.args.s (stand_of c.args.st) (view_of c.args.start) (view_of c.see-v.result) (get_or c.args.nexts.now c.loop-at.at 0) = looking-step c.loop-at.invariant.0 c.loop-at-test.true (low) (rw (c.roof_of-floor.ensures, c.index-i.ensures) at c.see-v.ensures) in
-    looking-drop (further) c.if-v.true
+    let seen = rw (c.roof_of-floor.ensures, c.index-i.ensures) at c.see-v.ensures in
+    let further = looking-step c.loop-at.invariant.0 c.loop-at-test.true (omega arith) seen in
+    looking-drop further c.if-v.true
 
 pub loop-at-smaller : goal.loop-at-smaller
 loop-at-smaller c = rw c.index-i.ensures (looking-less c.loop-at.invariant.0 c.loop-at-test.true)
 
 pub loop-at-preserved : goal.loop-at-preserved
 loop-at-preserved c =
-    let low : c.args.st.top + c.args.st.height ≤ open_top = omega (arith, c.requires.height_bound.0, c.well_formed) in
-    let further : LookingUp c.args.floors.now c.args.ceilings.now c.args.nexts.now c.args.s (stand_of c.args.st) (view_of c.args.start) (view_of c.see-v.result) (get_or c.args.nexts.now c.loop-at.at 0) = looking-step c.loop-at.invariant.0 c.loop-at-test.true (low) (rw (c.roof_of-floor.ensures, c.index-i.ensures) at c.see-v.ensures) in
+    let seen = rw (c.roof_of-floor.ensures, c.index-i.ensures) at c.see-v.ensures in
+    let further = looking-step c.loop-at.invariant.0 c.loop-at-test.true (omega arith) seen in
     rw c.index-i.ensures (further, c.if-v.false)
 
 pub returns : goal.returns

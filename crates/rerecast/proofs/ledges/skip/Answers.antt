@@ -1,26 +1,20 @@
 -- `skip` meets its contract: whatever slot the loop has come to is a cursor.
-use Prim.Native.Nat.{◌<◌, ◌≤◌}
-use lib.ListN.{length}
 use native.Mathlib.Omega.{arith}
-use Rattle.field.specs.Slots.{none, contents}
+use Rattle.field.specs.Slots.{contents}
 use Rattle.field.proofs.Chains.{chain-slot, chain-cons, chain-less}
 use Rattle.field.proofs.Upward.{roof-of}
 use Rattle.field.proofs.Cursors.{cursor-next}
 use Rattle.rerecast.proofs.ledges.skip.Goals as goal
-use Rattle.rerecast.proofs.ledges.skip.Goals.{In-loop-at}
-
-pub loop-at-init : goal.loop-at-init
-loop-at-init c = (c.requires.by_index, λ ceilings areas whole C. C)
 
 pub offset_bounds-nexts-i : goal.offset_bounds-nexts-i
 offset_bounds-nexts-i c =
-    let slot : (c.loop-at.at < length c.args.nexts.now) × (length c.args.nexts.now ≤ none) = let k = c.loop-at.invariant.0 in (chain-slot k.0 k.1 c.loop-at-test.true, k.1.few) in
-    omega (arith, slot)
+    let k = c.loop-at.invariant.0 in
+    omega (arith, chain-slot k.0 k.1 c.loop-at-test.true, k.1.few)
 
 pub bounds-nexts-i : goal.bounds-nexts-i
 bounds-nexts-i c =
-    let slot : (c.loop-at.at < length c.args.nexts.now) × (length c.args.nexts.now ≤ none) = let k = c.loop-at.invariant.0 in (chain-slot k.0 k.1 c.loop-at-test.true, k.1.few) in
-    omega (arith, slot)
+    let k = c.loop-at.invariant.0 in
+    omega (arith, chain-slot k.0 k.1 c.loop-at-test.true, k.1.few)
 
 pub roof_of-requires : goal.roof_of-requires
 roof_of-requires c =
@@ -33,7 +27,7 @@ roof_of-requires c =
 pub returns-then-need-wide : goal.returns-then-need-wide
 returns-then-need-wide c =
     let i = c.index-i.ensures in
-    record { by_index_2 = λ ceilings areas whole C. c.loop-at.invariant.1 ceilings areas whole C; under = λ n. omega (arith, rw i at c.roof_of.ensures, c.wide.ensures, c.if-need-wide.true) }
+    record { by_index_2 = c.loop-at.invariant.1; under = λ n. omega (arith, rw i at c.roof_of.ensures) }
 
 pub loop-at-smaller : goal.loop-at-smaller
 loop-at-smaller c =
@@ -50,8 +44,5 @@ loop-at-preserved c =
       (k.0, k.2),
       λ ceilings areas whole C.
           cursor-next (c.loop-at.invariant.1 ceilings areas whole C) c.loop-at-test.true
-          (λ tl h. rw (roof-of (contents c.args.floors.now ceilings areas) tl h) (omega (arith, rw i at c.roof_of.ensures, c.wide.ensures, c.if-need-wide.false))),
+          (λ tl h. rw (roof-of (contents c.args.floors.now ceilings areas) tl h) (omega (arith, rw i at c.roof_of.ensures))),
     )
-
-pub returns : goal.returns
-returns c = record { by_index_2 = λ ceilings areas whole C. c.loop-at.invariant.1 ceilings areas whole C; under = λ n. absurd (n c.loop-at-test.false) }

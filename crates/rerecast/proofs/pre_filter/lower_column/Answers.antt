@@ -1,24 +1,14 @@
 -- `lower_column` meets its contract: what is left of the column ends as the whole would.
-use Prim.Native.Nat.{◌<◌, ◌≤◌}
-use lib.ListN.{length}
 use native.Mathlib.Omega.{arith}
-use Rattle.field.specs.Slots.{none, contents}
-use Rattle.field.proofs.Upward.{roof-of, upward-start, upward-slot, upward-next, upward-less, upward-step, upward-end}
+use Rattle.field.specs.Slots.{contents}
+use Rattle.field.proofs.Upward.{roof-of, upward-slot, upward-next, upward-less, upward-step, upward-end}
 use Rattle.rerecast.proofs.pre_filter.lower_column.Goals as goal
-use Rattle.rerecast.proofs.pre_filter.lower_column.Goals.{In-loop-at}
-
-pub loop-at-init : goal.loop-at-init
-loop-at-init c = upward-start _ _ _ _ _ _ c.requires.by_index.0 c.requires.by_index.1.0 c.requires.by_index.1.1
 
 pub offset_bounds-nexts-i : goal.offset_bounds-nexts-i
-offset_bounds-nexts-i c =
-    let slot : (c.loop-at.at < length c.args.nexts.now) × (length c.args.nexts.now ≤ none) = upward-slot c.loop-at.invariant c.loop-at-test.true in
-    omega (arith, slot)
+offset_bounds-nexts-i c = omega (arith, upward-slot c.loop-at.invariant c.loop-at-test.true)
 
 pub bounds-nexts-i : goal.bounds-nexts-i
-bounds-nexts-i c =
-    let slot : (c.loop-at.at < length c.args.nexts.now) × (length c.args.nexts.now ≤ none) = upward-slot c.loop-at.invariant c.loop-at-test.true in
-    omega (arith, slot)
+bounds-nexts-i c = omega (arith, upward-slot c.loop-at.invariant c.loop-at-test.true)
 
 pub roof_of-roof-requires : goal.roof_of-roof-requires
 roof_of-roof-requires c =
@@ -27,24 +17,16 @@ roof_of-roof-requires c =
     rw i (omega (arith, upward-next c.loop-at.invariant c.loop-at-test.true (rw i at n)))
 
 pub offset_bounds-ceilings-i : goal.offset_bounds-ceilings-i
-offset_bounds-ceilings-i c =
-    let slot : (c.loop-at.at < length c.args.nexts.now) × (length c.args.nexts.now ≤ none) = upward-slot c.loop-at.invariant c.loop-at-test.true in
-    omega (arith, slot)
+offset_bounds-ceilings-i c = omega (arith, upward-slot c.loop-at.invariant c.loop-at-test.true)
 
 pub bounds-ceilings-i : goal.bounds-ceilings-i
-bounds-ceilings-i c =
-    let slot : (c.loop-at.at < length c.args.nexts.now) × (length c.args.nexts.now ≤ none) = upward-slot c.loop-at.invariant c.loop-at-test.true in
-    omega (arith, slot)
+bounds-ceilings-i c = omega (arith, upward-slot c.loop-at.invariant c.loop-at-test.true)
 
 pub bounds-areas-i : goal.bounds-areas-i
-bounds-areas-i c =
-    let slot : (c.loop-at.at < length c.args.nexts.now) × (length c.args.nexts.now ≤ none) = upward-slot c.loop-at.invariant c.loop-at-test.true in
-    omega (arith, slot, c.loop-at.invariant.size)
+bounds-areas-i c = omega (arith, upward-slot c.loop-at.invariant c.loop-at-test.true, c.loop-at.invariant.size)
 
 pub bounds-areas-i-in-loop-at : goal.bounds-areas-i-in-loop-at
-bounds-areas-i-in-loop-at c =
-    let slot : (c.loop-at.at < length c.args.nexts.now) × (length c.args.nexts.now ≤ none) = upward-slot c.loop-at.invariant c.loop-at-test.true in
-    omega (arith, slot, c.loop-at.invariant.size)
+bounds-areas-i-in-loop-at c = omega (arith, upward-slot c.loop-at.invariant c.loop-at-test.true, c.loop-at.invariant.size)
 
 pub loop-at-smaller : goal.loop-at-smaller
 loop-at-smaller c = rw c.index-i.ensures (upward-less c.loop-at.invariant c.loop-at-test.true)

@@ -1,47 +1,32 @@
 -- `raise_column` meets its contract: what is left of the column ends as the whole would, and the span below is at hand.
-use Prim.Native.Nat.{◌<◌, ◌≤◌}
 use mathlib.Core.Path.{refl}
 use mathlib.Core.List.{[]}
-use lib.ListN.{length, get_or}
+use lib.ListN.{get_or}
 use native.Mathlib.Omega.{arith}
-use Rattle.field.specs.Slots.{none}
 use Rattle.field.proofs.Upward.{upward-start, upward-slot, upward-less, upward-step, upward-end}
 use Rattle.rerecast.proofs.pre_filter.raise_column.Goals as goal
-use Rattle.rerecast.proofs.pre_filter.raise_column.Goals.{In-loop-at}
 
 pub loop-at-init : goal.loop-at-init
 unfolding upward-start
 loop-at-init c = λ floors. (upward-start _ floors _ _ _ _ c.requires.by_index.0 c.requires.by_index.1.0 c.requires.by_index.1.1, refl)
 
 pub offset_bounds-ceilings-i : goal.offset_bounds-ceilings-i
-offset_bounds-ceilings-i c =
-    let slot : (c.loop-at.at < length c.args.nexts.now) × (length c.args.nexts.now ≤ none) = upward-slot (c.loop-at.invariant []).0 c.loop-at-test.true in
-    omega (arith, slot)
+offset_bounds-ceilings-i c = omega (arith, upward-slot (c.loop-at.invariant []).0 c.loop-at-test.true)
 
 pub bounds-ceilings-i : goal.bounds-ceilings-i
-bounds-ceilings-i c =
-    let slot : (c.loop-at.at < length c.args.nexts.now) × (length c.args.nexts.now ≤ none) = upward-slot (c.loop-at.invariant []).0 c.loop-at-test.true in
-    omega (arith, slot)
+bounds-ceilings-i c = omega (arith, upward-slot (c.loop-at.invariant []).0 c.loop-at-test.true)
 
 pub bounds-areas-i : goal.bounds-areas-i
-bounds-areas-i c =
-    let slot : (c.loop-at.at < length c.args.nexts.now) × (length c.args.nexts.now ≤ none) = upward-slot (c.loop-at.invariant []).0 c.loop-at-test.true in
-    omega (arith, slot, (c.loop-at.invariant []).0.size)
+bounds-areas-i c = omega (arith, upward-slot (c.loop-at.invariant []).0 c.loop-at-test.true, (c.loop-at.invariant []).0.size)
 
 pub change_byte-requires : goal.change_byte-requires
-change_byte-requires c =
-    let slot : (c.loop-at.at < length c.args.nexts.now) × (length c.args.nexts.now ≤ none) = upward-slot (c.loop-at.invariant []).0 c.loop-at-test.true in
-    (omega (arith, slot, (c.loop-at.invariant []).0.size), refl)
+change_byte-requires c = (omega (arith, upward-slot (c.loop-at.invariant []).0 c.loop-at-test.true, (c.loop-at.invariant []).0.size), refl)
 
 pub offset_bounds-nexts-i : goal.offset_bounds-nexts-i
-offset_bounds-nexts-i c =
-    let slot : (c.loop-at.at < length c.args.nexts.now) × (length c.args.nexts.now ≤ none) = upward-slot (c.loop-at.invariant []).0 c.loop-at-test.true in
-    omega (arith, slot)
+offset_bounds-nexts-i c = omega (arith, upward-slot (c.loop-at.invariant []).0 c.loop-at-test.true)
 
 pub bounds-nexts-i : goal.bounds-nexts-i
-bounds-nexts-i c =
-    let slot : (c.loop-at.at < length c.args.nexts.now) × (length c.args.nexts.now ≤ none) = upward-slot (c.loop-at.invariant []).0 c.loop-at-test.true in
-    omega (arith, slot)
+bounds-nexts-i c = omega (arith, upward-slot (c.loop-at.invariant []).0 c.loop-at-test.true)
 
 pub loop-at-smaller : goal.loop-at-smaller
 loop-at-smaller c = rw c.index-i.ensures (upward-less (c.loop-at.invariant []).0 c.loop-at-test.true)
