@@ -25,7 +25,11 @@ pub extern "C" fn lv_into_compact(
     walkable_height: u16,
     climb: u16,
 ) -> u32
-    ensures { Answers (λ s. Compacted (grid_of grid.now) walkable_height climb (store heads.now (slots free.now floors.now ceilings.now areas.now nexts.now) marks.old) (result_of cell_indices.old cell_counts.old (rows ys.old «data».old span_areas.old)) (outcome s (store heads.now (slots free.now floors.now ceilings.now areas.now nexts.now) marks.new) (result_of cell_indices.new cell_counts.new (rows ys.new «data».new span_areas.new)))) result said.new }
+    ensures { Answers
+        (λ s. Compacted (grid_of grid.now) walkable_height climb (store heads.now (slots free.now floors.now ceilings.now areas.now nexts.now) marks.old)
+        (result_of cell_indices.old cell_counts.old (rows ys.old «data».old span_areas.old))
+        (outcome s (store heads.now (slots free.now floors.now ceilings.now areas.now nexts.now) marks.new)
+        (result_of cell_indices.new cell_counts.new (rows ys.new «data».new span_areas.new)))) result said.new }
 {
     let reply = rerecast::compact_heightfield::into_compact(
         grid_of(grid),

@@ -20,7 +20,9 @@ pub extern "C" fn lv_fresh(
     areas: &mut [u8],
     nexts: &mut [u32],
 ) -> u32
-    ensures { Answers (λ s. Freshened (grid_of grid.now) heads.old (slots free.old floors.old ceilings.old areas.old nexts.old) (made s heads.new (slots free.new floors.new ceilings.new areas.new nexts.new))) result said.new }
+    ensures { Answers
+        (λ s. Freshened (grid_of grid.now) heads.old (slots free.old floors.old ceilings.old areas.old nexts.old)
+        (made s heads.new (slots free.new floors.new ceilings.new areas.new nexts.new))) result said.new }
 {
     let reply = rerecast::heightfield::fresh(
         grid_of(grid),
@@ -52,7 +54,10 @@ pub extern "C" fn lv_add_span(
     area: u8,
     threshold: u16,
 ) -> u32
-    ensures { Answers (λ s. Added (grid_of grid.now) x z (record { floor = floor; ceiling = ceiling; area = area }) threshold (store heads.old (slots free.old floors.old ceilings.old areas.old nexts.old) marks.old) (left s (store heads.new (slots free.new floors.new ceilings.new areas.new nexts.new) marks.new))) result said.new }
+    ensures { Answers
+        (λ s. Added (grid_of grid.now) x z (record { floor = floor; ceiling = ceiling; area = area }) threshold
+        (store heads.old (slots free.old floors.old ceilings.old areas.old nexts.old) marks.old)
+        (left s (store heads.new (slots free.new floors.new ceilings.new areas.new nexts.new) marks.new))) result said.new }
 {
     let new = Span {
         floor,
@@ -93,7 +98,10 @@ pub extern "C" fn lv_populate_from_trimesh(
     walkable_height: u16,
     climb: u16,
 ) -> u32
-    ensures { Answers (λ s. Populated (grid_of grid.now) (mesh vertices.now indices.now triangle_areas.now) walkable_height climb (store heads.old (slots free.old floors.old ceilings.old areas.old nexts.old) marks.old) (left s (store heads.new (slots free.new floors.new ceilings.new areas.new nexts.new) marks.new))) result said.new }
+    ensures { Answers
+        (λ s. Populated (grid_of grid.now) (mesh vertices.now indices.now triangle_areas.now) walkable_height climb
+        (store heads.old (slots free.old floors.old ceilings.old areas.old nexts.old) marks.old)
+        (left s (store heads.new (slots free.new floors.new ceilings.new areas.new nexts.new) marks.new))) result said.new }
 {
     let reply = rerecast::heightfield::populate_from_trimesh(
         grid_of(grid),

@@ -20,7 +20,9 @@ pub extern "C" fn lv_filter_low_hanging_walkable_obstacles(
     marks: &mut [u8],
     climb: u16,
 ) -> u32
-    ensures { Answers (λ s. Filtered (grid_of grid.now) (low_obstacles climb) (store heads.now (slots free.now floors.now ceilings.now areas.old nexts.now) marks.old) (left s (store heads.now (slots free.now floors.now ceilings.now areas.new nexts.now) marks.new))) result said.new }
+    ensures { Answers
+        (λ s. Filtered (grid_of grid.now) (low_obstacles climb) (store heads.now (slots free.now floors.now ceilings.now areas.old nexts.now) marks.old)
+        (left s (store heads.now (slots free.now floors.now ceilings.now areas.new nexts.now) marks.new))) result said.new }
 {
     let reply = rerecast::pre_filter::filter_low_hanging_walkable_obstacles(
         grid_of(grid),
@@ -50,7 +52,10 @@ pub extern "C" fn lv_filter_ledge_spans(
     walkable_height: u16,
     climb: u16,
 ) -> u32
-    ensures { Answers (λ s. Filtered (grid_of grid.now) (ledges (width (grid_of grid.now)) (height (grid_of grid.now)) walkable_height climb) (store heads.now (slots free.now floors.now ceilings.now areas.old nexts.now) marks.old) (left s (store heads.now (slots free.now floors.now ceilings.now areas.new nexts.now) marks.new))) result said.new }
+    ensures { Answers
+        (λ s. Filtered (grid_of grid.now) (ledges (width (grid_of grid.now)) (height (grid_of grid.now)) walkable_height climb)
+        (store heads.now (slots free.now floors.now ceilings.now areas.old nexts.now) marks.old)
+        (left s (store heads.now (slots free.now floors.now ceilings.now areas.new nexts.now) marks.new))) result said.new }
 {
     let reply = rerecast::pre_filter::filter_ledge_spans(
         grid_of(grid),
@@ -80,7 +85,10 @@ pub extern "C" fn lv_filter_walkable_low_height_spans(
     marks: &mut [u8],
     walkable_height: u16,
 ) -> u32
-    ensures { Answers (λ s. Filtered (grid_of grid.now) (low_ceilings walkable_height) (store heads.now (slots free.now floors.now ceilings.now areas.old nexts.now) marks.old) (left s (store heads.now (slots free.now floors.now ceilings.now areas.new nexts.now) marks.new))) result said.new }
+    ensures { Answers
+        (λ s. Filtered (grid_of grid.now) (low_ceilings walkable_height)
+        (store heads.now (slots free.now floors.now ceilings.now areas.old nexts.now) marks.old)
+        (left s (store heads.now (slots free.now floors.now ceilings.now areas.new nexts.now) marks.new))) result said.new }
 {
     let reply = rerecast::pre_filter::filter_walkable_low_height_spans(
         grid_of(grid),

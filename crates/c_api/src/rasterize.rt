@@ -23,7 +23,10 @@ pub extern "C" fn lv_rasterize_triangles(
     triangle_areas: &[u8],
     threshold: u16,
 ) -> u32
-    ensures { Answers (λ s. Rasterized (grid_of grid.now) (mesh vertices.now indices.now triangle_areas.now) threshold (store heads.old (slots free.old floors.old ceilings.old areas.old nexts.old) marks.old) (left s (store heads.new (slots free.new floors.new ceilings.new areas.new nexts.new) marks.new))) result said.new }
+    ensures { Answers
+        (λ s. Rasterized (grid_of grid.now) (mesh vertices.now indices.now triangle_areas.now) threshold
+        (store heads.old (slots free.old floors.old ceilings.old areas.old nexts.old) marks.old)
+        (left s (store heads.new (slots free.new floors.new ceilings.new areas.new nexts.new) marks.new))) result said.new }
 {
     let reply = rerecast::rasterize::rasterize_triangles(
         grid_of(grid),
@@ -58,7 +61,10 @@ pub extern "C" fn lv_rasterize_triangle(
     area: u8,
     threshold: u16,
 ) -> u32
-    ensures { Answers (λ s. Rasterized (grid_of grid.now) (mesh corners.now (0 ∷ 1 ∷ 2 ∷ []) (area ∷ [])) threshold (store heads.old (slots free.old floors.old ceilings.old areas.old nexts.old) marks.old) (left s (store heads.new (slots free.new floors.new ceilings.new areas.new nexts.new) marks.new))) result said.new }
+    ensures { Answers
+        (λ s. Rasterized (grid_of grid.now) (mesh corners.now (0 ∷ 1 ∷ 2 ∷ []) (area ∷ [])) threshold
+        (store heads.old (slots free.old floors.old ceilings.old areas.old nexts.old) marks.old)
+        (left s (store heads.new (slots free.new floors.new ceilings.new areas.new nexts.new) marks.new))) result said.new }
 {
     let indices = [0u32, 1, 2];
     let triangle_areas = [area];

@@ -91,7 +91,9 @@ fn place(
 ) -> usize
     requires room { Room (k + length (open_above span top)) (rows ys.old «data».old span_areas.old) }
     requires column_in_bounds { (column < length cell_indices.now) × (column < length cell_counts.old) × (get_or cell_counts.old column 0 + length (open_above span top) ≤ 255) }
-    ensures { (result ≡ k + length (open_above span top)) × (rows ys.new «data».new span_areas.new ≡ laid (rows ys.old «data».old span_areas.old) k (open_above span top)) × (cell_counts.new ≡ raised_by cell_counts.old column (length (open_above span top))) }
+    ensures { (result ≡ k + length (open_above span top))
+        × (rows ys.new «data».new span_areas.new ≡ laid (rows ys.old «data».old span_areas.old) k (open_above span top))
+        × (cell_counts.new ≡ raised_by cell_counts.old column (length (open_above span top))) }
 {
     if span.area == Span::NOT_WALKABLE {
         return k;
@@ -122,7 +124,9 @@ fn fill_column(
 ) -> usize
     requires sized { Sized (slots 0 floors.now ceilings.now areas.now nexts.now) × (column < length cell_indices.now) }
     requires by_index { (ss : List ℕ) × (Chain nexts.now head ss × Layable (contents floors.now ceilings.now areas.now) ss (rows ys.old «data».old span_areas.old) start cell_counts.old column) }
-    ensures { (ss : List ℕ) → Chain nexts.now head ss → Laid (contents floors.now ceilings.now areas.now) ss (rows ys.old «data».old span_areas.old) start cell_counts.old column (rows ys.new «data».new span_areas.new) result cell_counts.new }
+    ensures { (ss : List ℕ) → Chain nexts.now head ss
+        → Laid (contents floors.now ceilings.now areas.now) ss (rows ys.old «data».old span_areas.old) start cell_counts.old column
+        (rows ys.new «data».new span_areas.new) result cell_counts.new }
 {
     let mut at = head;
     let mut k = start;
@@ -173,8 +177,11 @@ fn fill_columns(
     span_areas: &mut [u8],
 )
     requires heads_len_bound { (length heads.now ≤ 1048576) × (length heads.now ≤ length cell_indices.old) × (length heads.now ≤ length cell_counts.old) }
-    requires by_index { (free : ℕ) × (f : Field) × Holds heads.now (slots free floors.now ceilings.now areas.now nexts.now) f × Few (cells (columns_of f)) × Room (length (flatten (cells (columns_of f)))) (rows ys.old «data».old span_areas.old) }
-    ensures { (free : ℕ) (f : Field) → Holds heads.now (slots free floors.now ceilings.now areas.now nexts.now) f → Filled (columns_of f) (result_of cell_indices.old cell_counts.old (rows ys.old «data».old span_areas.old)) (result_of cell_indices.new cell_counts.new (rows ys.new «data».new span_areas.new)) }
+    requires by_index { (free : ℕ) × (f : Field) × Holds heads.now (slots free floors.now ceilings.now areas.now nexts.now) f × Few (cells (columns_of f))
+        × Room (length (flatten (cells (columns_of f)))) (rows ys.old «data».old span_areas.old) }
+    ensures { (free : ℕ) (f : Field) → Holds heads.now (slots free floors.now ceilings.now areas.now nexts.now) f
+        → Filled (columns_of f) (result_of cell_indices.old cell_counts.old (rows ys.old «data».old span_areas.old))
+        (result_of cell_indices.new cell_counts.new (rows ys.new «data».new span_areas.new)) }
 {
     let mut i = 0;
     let mut k = 0;
@@ -220,8 +227,14 @@ fn complete_columns(
     climb: u16,
 ) -> u8
     requires heads_len { (length heads.now ≡ width * depth) × (width * depth ≤ 1048576) × (length heads.now ≤ length cell_indices.old) × (length heads.now ≤ length cell_counts.old) }
-    requires by_index { (free : ℕ) × (f : Field) × Holds heads.now (slots free floors.now ceilings.now areas.now nexts.now) f × Few (cells (columns_of f)) × Room (length (flatten (cells (columns_of f)))) (rows ys.old «data».old span_areas.old) }
-    ensures { (free : ℕ) (f : Field) → Holds heads.now (slots free floors.now ceilings.now areas.now nexts.now) f → Room (length (flatten (cells (columns_of f)))) (rows ys.old «data».old span_areas.old) → (result ≡ largest_missed (passes tall climb) width depth (cells (columns_of f))) × (result_of cell_indices.new cell_counts.new (rows ys.new «data».new span_areas.new) ≡ complete (passes tall climb) width depth (columns_of f) (result_of cell_indices.old cell_counts.old (rows ys.old «data».old span_areas.old))) }
+    requires by_index { (free : ℕ) × (f : Field) × Holds heads.now (slots free floors.now ceilings.now areas.now nexts.now) f × Few (cells (columns_of f))
+        × Room (length (flatten (cells (columns_of f)))) (rows ys.old «data».old span_areas.old) }
+    ensures { (free : ℕ) (f : Field) → Holds heads.now (slots free floors.now ceilings.now areas.now nexts.now) f
+        → Room (length (flatten (cells (columns_of f)))) (rows ys.old «data».old span_areas.old)
+        → (result ≡ largest_missed (passes tall climb) width depth (cells (columns_of f)))
+        × (result_of cell_indices.new cell_counts.new (rows ys.new «data».new span_areas.new)
+        ≡ complete (passes tall climb) width depth (columns_of f)
+        (result_of cell_indices.old cell_counts.old (rows ys.old «data».old span_areas.old))) }
 {
     fill_columns(
         heads,
@@ -298,7 +311,11 @@ fn compact_field(
 ) -> Reply
     requires height_in_bounds { ((width * height ≤ length heads.now) × (width * height ≤ 1048576)) × (width * height ≤ length cell_indices.old) × (width * height ≤ length cell_counts.old) }
     requires by_index { (free : ℕ) × Held (take (width * height) heads.now) (slots free floors.now ceilings.now areas.now nexts.now) }
-    ensures { (free : ℕ) (marks : List ℕ) → Held (take (width * height) heads.now) (slots free floors.now ceilings.now areas.now nexts.now) → Compacts width height top tall climb (store heads.now (slots free floors.now ceilings.now areas.now nexts.now) marks) (result_of cell_indices.old cell_counts.old (rows ys.old «data».old span_areas.old)) (outcome (said_of result) (store heads.now (slots free floors.now ceilings.now areas.now nexts.now) (replicate (length nexts.now) 0)) (result_of cell_indices.new cell_counts.new (rows ys.new «data».new span_areas.new))) }
+    ensures { (free : ℕ) (marks : List ℕ) → Held (take (width * height) heads.now) (slots free floors.now ceilings.now areas.now nexts.now)
+        → Compacts width height top tall climb (store heads.now (slots free floors.now ceilings.now areas.now nexts.now) marks)
+        (result_of cell_indices.old cell_counts.old (rows ys.old «data».old span_areas.old))
+        (outcome (said_of result) (store heads.now (slots free floors.now ceilings.now areas.now nexts.now) (replicate (length nexts.now) 0))
+        (result_of cell_indices.new cell_counts.new (rows ys.new «data».new span_areas.new))) }
 {
     let n = columns_of(width, height);
     let tally = tally_columns(&heads[..n], areas, nexts);
@@ -353,7 +370,10 @@ pub fn into_compact(
     walkable_height: u16,
     climb: u16,
 ) -> Reply
-    ensures { Compacted grid walkable_height climb (store heads.now (slots free.now floors.now ceilings.now areas.now nexts.now) marks.old) (result_of cell_indices.old cell_counts.old (rows ys.old «data».old span_areas.old)) (outcome (said_of result) (store heads.now (slots free.now floors.now ceilings.now areas.now nexts.now) marks.new) (result_of cell_indices.new cell_counts.new (rows ys.new «data».new span_areas.new))) }
+    ensures { Compacted grid walkable_height climb (store heads.now (slots free.now floors.now ceilings.now areas.now nexts.now) marks.old)
+        (result_of cell_indices.old cell_counts.old (rows ys.old «data».old span_areas.old))
+        (outcome (said_of result) (store heads.now (slots free.now floors.now ceilings.now areas.now nexts.now) marks.new)
+        (result_of cell_indices.new cell_counts.new (rows ys.new «data».new span_areas.new))) }
 {
     let shortest = shorter(cell_indices.len(), cell_counts.len());
     let admission = admit(

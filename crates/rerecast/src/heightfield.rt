@@ -35,7 +35,10 @@ fn fresh_store(
     height: u32,
 ) -> Reply
     requires { width * height ≤ 1048576 }
-    ensures { Asks (Fits (width * height) heads.old (slots free.old floors.old ceilings.old areas.old nexts.old)) (made (just 4) heads.old (slots free.old floors.old ceilings.old areas.old nexts.old)) (IsFresh (width * height) heads.old (slots free.old floors.old ceilings.old areas.old nexts.old)) (made (said_of result) heads.new (slots free.new floors.new ceilings.new areas.new nexts.new)) }
+    ensures { Asks (Fits (width * height) heads.old (slots free.old floors.old ceilings.old areas.old nexts.old))
+        (made (just 4) heads.old (slots free.old floors.old ceilings.old areas.old nexts.old))
+        (IsFresh (width * height) heads.old (slots free.old floors.old ceilings.old areas.old nexts.old))
+        (made (said_of result) heads.new (slots free.new floors.new ceilings.new areas.new nexts.new)) }
 {
     let n = columns_of(width, height);
     let fit = slices_fit(
@@ -104,7 +107,9 @@ fn offer(
 ) -> Reply
     requires height_in_bounds { (width * height ≤ length heads.old) × (width * height ≤ 1048576) }
     requires held { Held (take (width * height) heads.old) (slots free.old floors.old ceilings.old areas.old nexts.old) }
-    ensures { (marks : List ℕ) → Offers width height x z new threshold (store heads.old (slots free.old floors.old ceilings.old areas.old nexts.old) marks) (left (said_of result) (store heads.new (slots free.new floors.new ceilings.new areas.new nexts.new) (replicate (length nexts.old) 0))) }
+    ensures { (marks : List ℕ)
+        → Offers width height x z new threshold (store heads.old (slots free.old floors.old ceilings.old areas.old nexts.old) marks)
+        (left (said_of result) (store heads.new (slots free.new floors.new ceilings.new areas.new nexts.new) (replicate (length nexts.old) 0))) }
 {
     if x >= width {
         return Reply::OffGrid;
@@ -149,7 +154,8 @@ pub fn add_span(
     new: Span,
     threshold: u16,
 ) -> Reply
-    ensures { Added grid x z new threshold (store heads.old (slots free.old floors.old ceilings.old areas.old nexts.old) marks.old) (left (said_of result) (store heads.new (slots free.new floors.new ceilings.new areas.new nexts.new) marks.new)) }
+    ensures { Added grid x z new threshold (store heads.old (slots free.old floors.old ceilings.old areas.old nexts.old) marks.old)
+        (left (said_of result) (store heads.new (slots free.new floors.new ceilings.new areas.new nexts.new) marks.new)) }
 {
     let columns = heads.len();
     let admission = admit(
@@ -179,7 +185,8 @@ fn filter_all(
 )
     requires height_value { (width * height ≡ length heads.now) × (width * height ≤ 1048576) }
     requires by_index { (free : ℕ) × Held heads.now (slots free floors.now ceilings.now areas.old nexts.now) }
-    ensures { (free : ℕ) (f : Field) → Holds heads.now (slots free floors.now ceilings.now areas.old nexts.now) f → Holds heads.now (slots free floors.now ceilings.now areas.new nexts.now) (filtered_by width height walkable_height walkable_climb f) }
+    ensures { (free : ℕ) (f : Field) → Holds heads.now (slots free floors.now ceilings.now areas.old nexts.now) f
+        → Holds heads.now (slots free floors.now ceilings.now areas.new nexts.now) (filtered_by width height walkable_height walkable_climb f) }
 {
     raise_columns(heads, ceilings, areas, nexts, walkable_climb);
     clear_columns(
@@ -213,7 +220,9 @@ fn build(
 ) -> Ending
     requires ready { Ready frame heads.old × Shaped (mesh vertices.now indices.now triangle_areas.now) × Named (mesh vertices.now indices.now triangle_areas.now) }
     requires held { Held heads.old (slots free.old floors.old ceilings.old areas.old nexts.old) }
-    ensures { (f : Field) → Holds heads.old (slots free.old floors.old ceilings.old areas.old nexts.old) f → MeshWorked (populated frame (mesh vertices.now indices.now triangle_areas.now) walkable_height walkable_climb f) result heads.new (slots free.new floors.new ceilings.new areas.new nexts.new) }
+    ensures { (f : Field) → Holds heads.old (slots free.old floors.old ceilings.old areas.old nexts.old) f
+        → MeshWorked (populated frame (mesh vertices.now indices.now triangle_areas.now) walkable_height walkable_climb f) result heads.new
+        (slots free.new floors.new ceilings.new areas.new nexts.new) }
 {
     let ending = triangles(
         heads,
@@ -264,7 +273,10 @@ fn populate(
 ) -> Reply
     requires sides { Sides width height × (width * height ≤ length heads.old) × Shaped (mesh vertices.now indices.now triangle_areas.now) × Named (mesh vertices.now indices.now triangle_areas.now) }
     requires held { Held (take (width * height) heads.old) (slots free.old floors.old ceilings.old areas.old nexts.old) }
-    ensures { (marks : List ℕ) → Builds (width * height) (populated (frame_of grid width height) (mesh vertices.now indices.now triangle_areas.now) walkable_height walkable_climb) (store heads.old (slots free.old floors.old ceilings.old areas.old nexts.old) marks) (left (said_of result) (store heads.new (slots free.new floors.new ceilings.new areas.new nexts.new) (replicate (length nexts.old) 0))) }
+    ensures { (marks : List ℕ)
+        → Builds (width * height) (populated (frame_of grid width height) (mesh vertices.now indices.now triangle_areas.now) walkable_height walkable_climb)
+        (store heads.old (slots free.old floors.old ceilings.old areas.old nexts.old) marks)
+        (left (said_of result) (store heads.new (slots free.new floors.new ceilings.new areas.new nexts.new) (replicate (length nexts.old) 0))) }
 {
     let n = columns_of(width, height);
     let frame = frame_of(grid, width, height);
@@ -301,7 +313,9 @@ pub fn populate_from_trimesh(
     walkable_height: u16,
     walkable_climb: u16,
 ) -> Reply
-    ensures { Populated grid (mesh vertices.now indices.now triangle_areas.now) walkable_height walkable_climb (store heads.old (slots free.old floors.old ceilings.old areas.old nexts.old) marks.old) (left (said_of result) (store heads.new (slots free.new floors.new ceilings.new areas.new nexts.new) marks.new)) }
+    ensures { Populated grid (mesh vertices.now indices.now triangle_areas.now) walkable_height walkable_climb
+        (store heads.old (slots free.old floors.old ceilings.old areas.old nexts.old) marks.old)
+        (left (said_of result) (store heads.new (slots free.new floors.new ceilings.new areas.new nexts.new) marks.new)) }
 {
     let admission = admit_mesh(
         grid,

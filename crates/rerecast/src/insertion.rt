@@ -116,7 +116,9 @@ fn merge(
 ) -> Merged
     requires sized { Sized (slots free.old floors.old ceilings.old areas.old nexts.old) }
     requires by_index { (ss : List ℕ) × (Chain nexts.old first ss × (Distinct ss × Over ceilings.old new.floor ss)) }
-    ensures { (ss : List ℕ) → Chain nexts.old first ss → Absorbs threshold (slots free.old floors.old ceilings.old areas.old nexts.old) new ss (slots free.new floors.new ceilings.new areas.new nexts.new) result.span result.next result.count }
+    ensures { (ss : List ℕ) → Chain nexts.old first ss
+        → Absorbs threshold (slots free.old floors.old ceilings.old areas.old nexts.old) new ss (slots free.new floors.new ceilings.new areas.new nexts.new)
+        result.span result.next result.count }
 {
     let mut at = first;
     let mut span = new;
@@ -211,7 +213,9 @@ pub(crate) fn insert_span(
     requires column_in_bounds { column < length heads.old }
     requires floor_le_ceiling { new.floor ≤ new.ceiling }
     requires by_index { (others : List ℕ) × Held (heads.old ++ others) (slots free.old floors.old ceilings.old areas.old nexts.old) }
-    ensures { (others : List ℕ) (f : Field) → Holds (heads.old ++ others) (slots free.old floors.old ceilings.old areas.old nexts.old) f → Lands result (insert threshold f column new) × Holds (heads.new ++ others) (slots free.new floors.new ceilings.new areas.new nexts.new) (insert threshold f column new).field }
+    ensures { (others : List ℕ) (f : Field) → Holds (heads.old ++ others) (slots free.old floors.old ceilings.old areas.old nexts.old) f
+        → Lands result (insert threshold f column new)
+        × Holds (heads.new ++ others) (slots free.new floors.new ceilings.new areas.new nexts.new) (insert threshold f column new).field }
 {
     let head = heads[column];
     let place = pass(ceilings, nexts, head, new.floor);

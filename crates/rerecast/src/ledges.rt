@@ -113,7 +113,8 @@ fn look(floors: &[u16], ceilings: &[u16], nexts: &[u32], s: u32, st: Stand, star
 fn skip(floors: &[u16], nexts: &[u32], s: u32, need: u32) -> u32
     requires floors_len { length floors.now ≡ length nexts.now }
     requires by_index { (ss : List ℕ) × Chain nexts.now s ss }
-    ensures by_index_2 { (ceilings areas : List ℕ) (whole : List Span) → Cursor (contents floors.now ceilings areas) nexts.now need whole s → Cursor (contents floors.now ceilings areas) nexts.now need whole result }
+    ensures by_index_2 { (ceilings areas : List ℕ) (whole : List Span) → Cursor (contents floors.now ceilings areas) nexts.now need whole s
+        → Cursor (contents floors.now ceilings areas) nexts.now need whole result }
     ensures under { Under floors.now nexts.now need result }
 {
     let mut at = s;
@@ -131,8 +132,11 @@ fn skip(floors: &[u16], nexts: &[u32], s: u32, need: u32) -> u32
 // The slots beside, each moved up to the first under a floor of at least `need`.
 fn follow(floors: &[u16], nexts: &[u32], sides: Sides, need: u32) -> Sides
     requires floors_len { length floors.now ≡ length nexts.now }
-    requires by_index { (ceilings : List ℕ) × (areas : List ℕ) × (at : ℕ → List Span) × (w : ℕ) × (i : ℕ) × Cursors (contents floors.now ceilings areas) nexts.now need at (around w i) (sides_of sides) }
-    ensures by_index_2 { (ceilings areas : List ℕ) (at : ℕ → List Span) (w i : ℕ) → Cursors (contents floors.now ceilings areas) nexts.now need at (around w i) (sides_of sides) → Cursors (contents floors.now ceilings areas) nexts.now need at (around w i) (sides_of result) }
+    requires by_index { (ceilings : List ℕ) × (areas : List ℕ) × (at : ℕ → List Span) × (w : ℕ) × (i : ℕ)
+        × Cursors (contents floors.now ceilings areas) nexts.now need at (around w i) (sides_of sides) }
+    ensures by_index_2 { (ceilings areas : List ℕ) (at : ℕ → List Span) (w i : ℕ)
+        → Cursors (contents floors.now ceilings areas) nexts.now need at (around w i) (sides_of sides)
+        → Cursors (contents floors.now ceilings areas) nexts.now need at (around w i) (sides_of result) }
     ensures all_under { AllUnder floors.now nexts.now need result }
 {
     Sides {
@@ -148,7 +152,9 @@ fn looks_steep(floors: &[u16], ceilings: &[u16], nexts: &[u32], sides: Sides, st
     requires floors_len { (length floors.now ≡ length nexts.now) × (length ceilings.now ≡ length nexts.now) }
     requires by_index { (areas : List ℕ) × (at : ℕ → List Span) × (w : ℕ) × (i : ℕ) × Cursors (contents floors.now ceilings.now areas) nexts.now (st.top + st.height) at (around w i) (sides_of sides) }
     requires height_bound { (st.top + st.height ≤ st.roof) × AllUnder floors.now nexts.now (st.top + st.height) sides }
-    ensures { (areas : List ℕ) (at : ℕ → List Span) (w i : ℕ) → Cursors (contents floors.now ceilings.now areas) nexts.now (st.top + st.height) at (around w i) (sides_of sides) → result ≡ tells (stand_of st) (looked_at (stand_of st) at (around w i)) }
+    ensures { (areas : List ℕ) (at : ℕ → List Span) (w i : ℕ)
+        → Cursors (contents floors.now ceilings.now areas) nexts.now (st.top + st.height) at (around w i) (sides_of sides)
+        → result ≡ tells (stand_of st) (looked_at (stand_of st) at (around w i)) }
 {
     let start = View {
         drop: false,
@@ -177,7 +183,10 @@ fn judge(
 ) -> Judged
     requires floors_len { (length floors.now ≡ length nexts.now) × (length ceilings.now ≡ length nexts.now) }
     requires by_index { (areas : List ℕ) × (at : ℕ → List Span) × (w : ℕ) × (i : ℕ) × Cursors (contents floors.now ceilings.now areas) nexts.now (st.top + st.height) at (around w i) (sides_of sides) }
-    ensures { (areas : List ℕ) (at : ℕ → List Span) (w i : ℕ) → Cursors (contents floors.now ceilings.now areas) nexts.now (st.top + st.height) at (around w i) (sides_of sides) → Cursors (contents floors.now ceilings.now areas) nexts.now (st.top + st.height) at (around w i) (sides_of result.sides) × (Inside (around w i) → hollow ≡ hollow_of at (around w i) → result.area ≡ cond (ledge (stand_of st) at (around w i)) 0 area) }
+    ensures { (areas : List ℕ) (at : ℕ → List Span) (w i : ℕ)
+        → Cursors (contents floors.now ceilings.now areas) nexts.now (st.top + st.height) at (around w i) (sides_of sides)
+        → Cursors (contents floors.now ceilings.now areas) nexts.now (st.top + st.height) at (around w i) (sides_of result.sides)
+        × (Inside (around w i) → hollow ≡ hollow_of at (around w i) → result.area ≡ cond (ledge (stand_of st) at (around w i)) 0 area) }
 {
     let need = wide(st.top) + wide(st.height);
     if area == 0 {
@@ -217,7 +226,8 @@ fn sides_of(heads: &[u32], width: usize, column: usize) -> Sides
 
 // The highest of the floors of the slots beside.
 fn hollow_of(floors: &[u16], sides: Sides) -> u16
-    requires { (nexts : List ℕ) × (length floors.now ≡ length nexts) × (ceilings : List ℕ) × (areas : List ℕ) × (need : ℕ) × (at : ℕ → List Span) × (w : ℕ) × (i : ℕ) × Cursors (contents floors.now ceilings areas) nexts need at (around w i) (sides_of sides) }
+    requires { (nexts : List ℕ) × (length floors.now ≡ length nexts) × (ceilings : List ℕ) × (areas : List ℕ) × (need : ℕ) × (at : ℕ → List Span) × (w : ℕ)
+        × (i : ℕ) × Cursors (contents floors.now ceilings areas) nexts need at (around w i) (sides_of sides) }
     ensures { result ≡ greatest (map (roof_at floors.now) (sides_of sides)) }
 {
     let a = roof_of(floors, sides.west);
@@ -242,7 +252,12 @@ fn clear_inner(
     requires column_nonzero { (0 < column) × (width ≤ column) × (column + width < length heads.now) × (column + 1 < length heads.now) × (length heads.now ≤ 1048576) }
     requires areas_len { length areas.old ≡ length nexts.now }
     requires by_index { (free : ℕ) × (areas₀ : List ℕ) × Held heads.now (slots free floors.now ceilings.now areas₀ nexts.now) }
-    ensures { (free : ℕ) (areas₀ : List ℕ) (f : Field) → Holds heads.now (slots free floors.now ceilings.now areas₀ nexts.now) f → (ss : List ℕ) → Chain nexts.now (get_or heads.now column 0) ss → areas.new ≡ assign areas.old ss (ruled (λ below s above. firm height climb (spans f) (around width column) s above) [] (map (span_at (contents floors.now ceilings.now areas.old)) ss)) }
+    ensures { (free : ℕ) (areas₀ : List ℕ) (f : Field) → Holds heads.now (slots free floors.now ceilings.now areas₀ nexts.now) f → (ss : List ℕ)
+        → Chain nexts.now (get_or heads.now column 0) ss
+        → areas.new
+        ≡ assign areas.old ss
+        (ruled (λ below s above. firm height climb (spans f) (around width column) s above) []
+        (map (span_at (contents floors.now ceilings.now areas.old)) ss)) }
 {
     let mut at = heads[column];
     let mut sides = sides_of(heads, width, column);
@@ -295,7 +310,12 @@ fn clear_spans(
     requires x_lt_width { (c.x < width) × (c.z < depth) × (width * depth ≡ length heads.now) × (width * depth ≤ 1048576) }
     requires areas_len { length areas.old ≡ length nexts.now }
     requires by_index { (free : ℕ) × (areas₀ : List ℕ) × Held heads.now (slots free floors.now ceilings.now areas₀ nexts.now) }
-    ensures { (free : ℕ) (areas₀ : List ℕ) (f : Field) → Holds heads.now (slots free floors.now ceilings.now areas₀ nexts.now) f → (ss : List ℕ) → Chain nexts.now (get_or heads.now (c.x + c.z * width) 0) ss → areas.new ≡ assign areas.old ss (ruled (λ below s above. firm height climb (spans f) (beside width depth (c.x + c.z * width)) s above) [] (map (span_at (contents floors.now ceilings.now areas.old)) ss)) }
+    ensures { (free : ℕ) (areas₀ : List ℕ) (f : Field) → Holds heads.now (slots free floors.now ceilings.now areas₀ nexts.now) f → (ss : List ℕ)
+        → Chain nexts.now (get_or heads.now (c.x + c.z * width) 0) ss
+        → areas.new
+        ≡ assign areas.old ss
+        (ruled (λ below s above. firm height climb (spans f) (beside width depth (c.x + c.z * width)) s above) []
+        (map (span_at (contents floors.now ceilings.now areas.old)) ss)) }
 {
     let column = c.x + c.z * width;
     if on_rim(width, depth, c) {
@@ -323,7 +343,12 @@ fn clear_column(
     requires x_lt_width { (c.x < width) × (c.z < depth) × (width * depth ≡ length heads.now) × (width * depth ≤ 1048576) }
     requires areas_len { length areas.old ≡ length nexts.now }
     requires by_index { (free : ℕ) × (areas₀ : List ℕ) × Held heads.now (slots free floors.now ceilings.now areas₀ nexts.now) }
-    ensures { (free : ℕ) (areas₀ : List ℕ) (f : Field) → Holds heads.now (slots free floors.now ceilings.now areas₀ nexts.now) f → (ss : List ℕ) → Chain nexts.now (get_or heads.now (c.x + c.z * width) 0) ss → areas.new ≡ assign areas.old ss (ruled (λ below s above. firm height climb (spans f) (beside width depth (c.x + c.z * width)) s above) [] (map (span_at (contents floors.now ceilings.now areas.old)) ss)) }
+    ensures { (free : ℕ) (areas₀ : List ℕ) (f : Field) → Holds heads.now (slots free floors.now ceilings.now areas₀ nexts.now) f → (ss : List ℕ)
+        → Chain nexts.now (get_or heads.now (c.x + c.z * width) 0) ss
+        → areas.new
+        ≡ assign areas.old ss
+        (ruled (λ below s above. firm height climb (spans f) (beside width depth (c.x + c.z * width)) s above) []
+        (map (span_at (contents floors.now ceilings.now areas.old)) ss)) }
 {
     let column = c.x + c.z * width;
     if heads[column] == NONE {
@@ -348,7 +373,8 @@ pub(crate) fn clear_columns(
 )
     requires depth_value { (width * depth ≡ length heads.now) × (width * depth ≤ 1048576) }
     requires by_index { (free : ℕ) × Held heads.now (slots free floors.now ceilings.now areas.old nexts.now) }
-    ensures { (free : ℕ) (f : Field) → Holds heads.now (slots free floors.now ceilings.now areas.old nexts.now) f → Holds heads.now (slots free floors.now ceilings.now areas.new nexts.now) (ledges width depth height climb f) }
+    ensures { (free : ℕ) (f : Field) → Holds heads.now (slots free floors.now ceilings.now areas.old nexts.now) f
+        → Holds heads.now (slots free floors.now ceilings.now areas.new nexts.now) (ledges width depth height climb f) }
 {
     let mut c = Cell { x: 0, z: 0 };
     let mut i = 0;

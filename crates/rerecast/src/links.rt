@@ -141,7 +141,8 @@ fn better(pass: bool, l: u8, best: u8) -> u8
 
 // The largest of the layers from 63 up to `n` that an agent passes to, or 0. None below `from` is one.
 fn largest_layer(ys: &[u16], data: &[u32], first: usize, n: u8, from: u8, q: Post) -> u8
-    requires { (63 ≤ n) × (from ≤ n) × (first + n ≤ length ys.now) × (first + n ≤ length «data».now) × Climbs ys.now first n × NonePasses ys.now «data».now first (passes q.tall q.climb (space q.y q.height 0)) 0 from }
+    requires { (63 ≤ n) × (from ≤ n) × (first + n ≤ length ys.now) × (first + n ≤ length «data».now) × Climbs ys.now first n
+        × NonePasses ys.now «data».now first (passes q.tall q.climb (space q.y q.height 0)) 0 from }
     ensures { result ≡ largest (passes q.tall q.climb (space q.y q.height 0)) 0 63 (shown ys.now «data».now (first + 63) (n - 63)) }
 {
     let mut l: u8 = greater_layer(63, from);
@@ -161,7 +162,9 @@ fn largest_layer(ys: &[u16], data: &[u32], first: usize, n: u8, from: u8, q: Pos
 // The link of an open space to a cell beside. The layers below `from` are out of reach.
 fn link_to(ys: &[u16], data: &[u32], side: Side, from: u8, q: Post) -> Found
     requires { Lies ys.now «data».now side × Left q.tall q.climb q.y ys.now «data».now side from }
-    ensures { (result.layer ≡ link (passes q.tall q.climb (space q.y q.height 0)) (shown ys.now «data».now side.first side.count)) × (result.missed ≡ missed (passes q.tall q.climb (space q.y q.height 0)) (shown ys.now «data».now side.first side.count)) × Left q.tall q.climb q.y ys.now «data».now side result.from }
+    ensures { (result.layer ≡ link (passes q.tall q.climb (space q.y q.height 0)) (shown ys.now «data».now side.first side.count))
+        × (result.missed ≡ missed (passes q.tall q.climb (space q.y q.height 0)) (shown ys.now «data».now side.first side.count))
+        × Left q.tall q.climb q.y ys.now «data».now side result.from }
 {
     let first = side.first;
     let n = side.count;
@@ -193,7 +196,9 @@ fn link_to(ys: &[u16], data: &[u32], side: Side, from: u8, q: Post) -> Found
 // The word of an open space with its links to the cells beside.
 fn bind(ys: &[u16], data: &[u32], r: Around, t: Cursors, q: Post) -> Bound
     requires { Within ys.now «data».now (sides_of r) × AllLeft q.tall q.climb q.y ys.now «data».now (sides_of r) (cursors_of t) }
-    ensures { (result.word ≡ word_of (passes q.tall q.climb) (layers_of ys.now «data».now (sides_of r)) (space q.y q.height 0)) × (result.missed ≡ missed_of (passes q.tall q.climb) (layers_of ys.now «data».now (sides_of r)) (space q.y q.height 0)) × AllLeft q.tall q.climb q.y ys.now «data».now (sides_of r) (cursors_of result.cursors) }
+    ensures { (result.word ≡ word_of (passes q.tall q.climb) (layers_of ys.now «data».now (sides_of r)) (space q.y q.height 0))
+        × (result.missed ≡ missed_of (passes q.tall q.climb) (layers_of ys.now «data».now (sides_of r)) (space q.y q.height 0))
+        × AllLeft q.tall q.climb q.y ys.now «data».now (sides_of r) (cursors_of result.cursors) }
 {
     let a = link_to(ys, data, r.side0, t.from0, q);
     let b = link_to(ys, data, r.side1, t.from1, q);
@@ -232,7 +237,11 @@ fn link_spans(
 ) -> u8
     requires column_bound { (column < width * depth) × (width * depth ≤ 1048576) }
     requires cs_len { (cs : List (List Open)) × (length cs ≡ width * depth) × Shown cs cell_indices.now cell_counts.now ys.now «data».old }
-    ensures { (cs : List (List Open)) → length cs ≡ width * depth → Shown cs cell_indices.now cell_counts.now ys.now «data».old → («data».new ≡ sets «data».old (get_or cell_indices.now column 0) (map (word_of (passes tall climb) (around width depth cs column)) (get_or cs column []))) × (result ≡ foldl max missed (map (missed_of (passes tall climb) (around width depth cs column)) (get_or cs column []))) × Shown cs cell_indices.now cell_counts.now ys.now «data».new }
+    ensures { (cs : List (List Open)) → length cs ≡ width * depth → Shown cs cell_indices.now cell_counts.now ys.now «data».old
+        → («data».new
+        ≡ sets «data».old (get_or cell_indices.now column 0) (map (word_of (passes tall climb) (around width depth cs column)) (get_or cs column [])))
+        × (result ≡ foldl max missed (map (missed_of (passes tall climb) (around width depth cs column)) (get_or cs column [])))
+        × Shown cs cell_indices.now cell_counts.now ys.now «data».new }
 {
     let sides = around_column(cell_indices, cell_counts, width, depth, column);
     let first = index(cell_indices[column]);
@@ -277,7 +286,11 @@ fn link_column(
 ) -> u8
     requires column_bound { (column < width * depth) × (width * depth ≤ 1048576) }
     requires cs_len { (cs : List (List Open)) × (length cs ≡ width * depth) × Shown cs cell_indices.now cell_counts.now ys.now «data».old }
-    ensures { (cs : List (List Open)) → length cs ≡ width * depth → Shown cs cell_indices.now cell_counts.now ys.now «data».old → («data».new ≡ sets «data».old (get_or cell_indices.now column 0) (map (word_of (passes tall climb) (around width depth cs column)) (get_or cs column []))) × (result ≡ foldl max missed (map (missed_of (passes tall climb) (around width depth cs column)) (get_or cs column []))) × Shown cs cell_indices.now cell_counts.now ys.now «data».new }
+    ensures { (cs : List (List Open)) → length cs ≡ width * depth → Shown cs cell_indices.now cell_counts.now ys.now «data».old
+        → («data».new
+        ≡ sets «data».old (get_or cell_indices.now column 0) (map (word_of (passes tall climb) (around width depth cs column)) (get_or cs column [])))
+        × (result ≡ foldl max missed (map (missed_of (passes tall climb) (around width depth cs column)) (get_or cs column [])))
+        × Shown cs cell_indices.now cell_counts.now ys.now «data».new }
 {
     if cell_counts[column] == 0 {
         return missed;
@@ -309,7 +322,8 @@ pub(crate) fn link_columns(
 ) -> u8
     requires depth_bound { width * depth ≤ 1048576 }
     requires cs_len { (cs : List (List Open)) × (length cs ≡ width * depth) × Shown cs cell_indices.now cell_counts.now ys.now «data».old }
-    ensures { (cs : List (List Open)) → length cs ≡ width * depth → Shown cs cell_indices.now cell_counts.now ys.now «data».old → («data».new ≡ sets «data».old 0 (words (passes tall climb) width depth cs)) × (result ≡ largest_missed (passes tall climb) width depth cs) }
+    ensures { (cs : List (List Open)) → length cs ≡ width * depth → Shown cs cell_indices.now cell_counts.now ys.now «data».old
+        → («data».new ≡ sets «data».old 0 (words (passes tall climb) width depth cs)) × (result ≡ largest_missed (passes tall climb) width depth cs) }
 {
     let total = width * depth;
     let mut i = 0;

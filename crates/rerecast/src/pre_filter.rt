@@ -71,7 +71,8 @@ fn raise(climb: u16, base: u16, ground: u8, ceiling: u16, area: u8) -> u8
 fn raise_column(ceilings: &[u16], areas: &mut [u8], nexts: &[u32], head: u32, climb: u16)
     requires ceilings_len { (length ceilings.now ≡ length nexts.now) × (length areas.old ≡ length nexts.now) }
     requires by_index { (ss : List ℕ) × (Chain nexts.now head ss × Distinct ss) }
-    ensures { (floors ss : List ℕ) → Chain nexts.now head ss → areas.new ≡ assign areas.old ss (ruled (λ below s above. raised climb below s) [] (map (span_at (contents floors ceilings.now areas.old)) ss)) }
+    ensures { (floors ss : List ℕ) → Chain nexts.now head ss
+        → areas.new ≡ assign areas.old ss (ruled (λ below s above. raised climb below s) [] (map (span_at (contents floors ceilings.now areas.old)) ss)) }
 {
     let mut at = head;
     let mut base: u16 = 0;
@@ -96,7 +97,8 @@ pub(crate) fn raise_columns(
     climb: u16,
 )
     requires { (free : ℕ) × (floors : List ℕ) × Held heads.now (slots free floors ceilings.now areas.old nexts.now) }
-    ensures { (free : ℕ) (floors : List ℕ) (f : Field) → Holds heads.now (slots free floors ceilings.now areas.old nexts.now) f → Holds heads.now (slots free floors ceilings.now areas.new nexts.now) (low_obstacles climb f) }
+    ensures { (free : ℕ) (floors : List ℕ) (f : Field) → Holds heads.now (slots free floors ceilings.now areas.old nexts.now) f
+        → Holds heads.now (slots free floors ceilings.now areas.new nexts.now) (low_obstacles climb f) }
 {
     let mut i = 0;
     while i < heads.len() {
@@ -117,7 +119,8 @@ pub fn filter_low_hanging_walkable_obstacles(
     marks: &mut [u8],
     walkable_climb: u16,
 ) -> Reply
-    ensures { Filtered grid (low_obstacles walkable_climb) (store heads.now (slots free.now floors.now ceilings.now areas.old nexts.now) marks.old) (left (said_of result) (store heads.now (slots free.now floors.now ceilings.now areas.new nexts.now) marks.new)) }
+    ensures { Filtered grid (low_obstacles walkable_climb) (store heads.now (slots free.now floors.now ceilings.now areas.old nexts.now) marks.old)
+        (left (said_of result) (store heads.now (slots free.now floors.now ceilings.now areas.new nexts.now) marks.new)) }
 {
     let columns = heads.len();
     let admission = admit(
@@ -148,7 +151,9 @@ pub fn filter_ledge_spans(
     walkable_height: u16,
     walkable_climb: u16,
 ) -> Reply
-    ensures { Filtered grid (ledges (width grid) (height grid) walkable_height walkable_climb) (store heads.now (slots free.now floors.now ceilings.now areas.old nexts.now) marks.old) (left (said_of result) (store heads.now (slots free.now floors.now ceilings.now areas.new nexts.now) marks.new)) }
+    ensures { Filtered grid (ledges (width grid) (height grid) walkable_height walkable_climb)
+        (store heads.now (slots free.now floors.now ceilings.now areas.old nexts.now) marks.old)
+        (left (said_of result) (store heads.now (slots free.now floors.now ceilings.now areas.new nexts.now) marks.new)) }
 {
     let columns = heads.len();
     let admission = admit(
@@ -197,7 +202,8 @@ fn lower_column(
 )
     requires floors_len { (length floors.now ≡ length nexts.now) × (length ceilings.now ≡ length nexts.now) × (length areas.old ≡ length nexts.now) }
     requires by_index { (ss : List ℕ) × (Chain nexts.now head ss × Distinct ss) }
-    ensures { (ss : List ℕ) → Chain nexts.now head ss → areas.new ≡ assign areas.old ss (ruled (λ below s above. roomed height s above) [] (map (span_at (contents floors.now ceilings.now areas.old)) ss)) }
+    ensures { (ss : List ℕ) → Chain nexts.now head ss
+        → areas.new ≡ assign areas.old ss (ruled (λ below s above. roomed height s above) [] (map (span_at (contents floors.now ceilings.now areas.old)) ss)) }
 {
     let mut at = head;
     while at != NONE {
@@ -219,7 +225,8 @@ pub(crate) fn lower_columns(
     height: u16,
 )
     requires { (free : ℕ) × Held heads.now (slots free floors.now ceilings.now areas.old nexts.now) }
-    ensures { (free : ℕ) (f : Field) → Holds heads.now (slots free floors.now ceilings.now areas.old nexts.now) f → Holds heads.now (slots free floors.now ceilings.now areas.new nexts.now) (low_ceilings height f) }
+    ensures { (free : ℕ) (f : Field) → Holds heads.now (slots free floors.now ceilings.now areas.old nexts.now) f
+        → Holds heads.now (slots free floors.now ceilings.now areas.new nexts.now) (low_ceilings height f) }
 {
     let mut i = 0;
     while i < heads.len() {
@@ -240,7 +247,8 @@ pub fn filter_walkable_low_height_spans(
     marks: &mut [u8],
     walkable_height: u16,
 ) -> Reply
-    ensures { Filtered grid (low_ceilings walkable_height) (store heads.now (slots free.now floors.now ceilings.now areas.old nexts.now) marks.old) (left (said_of result) (store heads.now (slots free.now floors.now ceilings.now areas.new nexts.now) marks.new)) }
+    ensures { Filtered grid (low_ceilings walkable_height) (store heads.now (slots free.now floors.now ceilings.now areas.old nexts.now) marks.old)
+        (left (said_of result) (store heads.now (slots free.now floors.now ceilings.now areas.new nexts.now) marks.new)) }
 {
     let columns = heads.len();
     let admission = admit(

@@ -44,7 +44,9 @@ fn triangle(
 ) -> Step
     requires ready { Ready job.frame heads.old }
     requires by_index { (others : List ℕ) × Held (heads.old ++ others) (slots free.old floors.old ceilings.old areas.old nexts.old) }
-    ensures { (others : List ℕ) (f : Field) → Holds (heads.old ++ others) (slots free.old floors.old ceilings.old areas.old nexts.old) f → Carries job 0 f (triangle_events job.frame (a ∷ b ∷ c ∷ [])) result (heads.new ++ others) (slots free.new floors.new ceilings.new areas.new nexts.new) }
+    ensures { (others : List ℕ) (f : Field) → Holds (heads.old ++ others) (slots free.old floors.old ceilings.old areas.old nexts.old) f
+        → Carries job 0 f (triangle_events job.frame (a ∷ b ∷ c ∷ [])) result (heads.new ++ others)
+        (slots free.new floors.new ceilings.new areas.new nexts.new) }
 {
     let f = job.frame;
     let xs = three(a.x, b.x, c.x);
@@ -92,7 +94,9 @@ fn triangle_at(
 ) -> Step
     requires ready { Ready frame heads.old × Shaped (mesh vertices.now indices.now triangle_areas.now) × Named (mesh vertices.now indices.now triangle_areas.now) × (t < length triangle_areas.now) }
     requires by_index { (others : List ℕ) × Held (heads.old ++ others) (slots free.old floors.old ceilings.old areas.old nexts.old) }
-    ensures { (others : List ℕ) (f : Field) → Holds (heads.old ++ others) (slots free.old floors.old ceilings.old areas.old nexts.old) f → Worked frame threshold (work_of frame (mesh vertices.now indices.now triangle_areas.now) t) f result (heads.new ++ others) (slots free.new floors.new ceilings.new areas.new nexts.new) }
+    ensures { (others : List ℕ) (f : Field) → Holds (heads.old ++ others) (slots free.old floors.old ceilings.old areas.old nexts.old) f
+        → Worked frame threshold (work_of frame (mesh vertices.now indices.now triangle_areas.now) t) f result (heads.new ++ others)
+        (slots free.new floors.new ceilings.new areas.new nexts.new) }
 {
     let at = t * 3;
     let a = corner(vertices, indices, at);
@@ -149,7 +153,9 @@ pub(crate) fn triangles(
 ) -> Ending
     requires ready { Ready frame heads.old × Shaped (mesh vertices.now indices.now triangle_areas.now) × Named (mesh vertices.now indices.now triangle_areas.now) }
     requires by_index { (others : List ℕ) × Held (heads.old ++ others) (slots free.old floors.old ceilings.old areas.old nexts.old) }
-    ensures { (others : List ℕ) (f : Field) → Holds (heads.old ++ others) (slots free.old floors.old ceilings.old areas.old nexts.old) f → MeshWorked (rasterized frame (mesh vertices.now indices.now triangle_areas.now) threshold f) result (heads.new ++ others) (slots free.new floors.new ceilings.new areas.new nexts.new) }
+    ensures { (others : List ℕ) (f : Field) → Holds (heads.old ++ others) (slots free.old floors.old ceilings.old areas.old nexts.old) f
+        → MeshWorked (rasterized frame (mesh vertices.now indices.now triangle_areas.now) threshold f) result (heads.new ++ others)
+        (slots free.new floors.new ceilings.new areas.new nexts.new) }
 {
     let mut t: usize = 0;
     while t < triangle_areas.len() {
@@ -195,7 +201,10 @@ fn take_mesh(
 ) -> Reply
     requires sides { Sides width height × (width * height ≤ length heads.old) × Shaped (mesh vertices.now indices.now triangle_areas.now) × Named (mesh vertices.now indices.now triangle_areas.now) }
     requires held { Held (take (width * height) heads.old) (slots free.old floors.old ceilings.old areas.old nexts.old) }
-    ensures { (marks : List ℕ) → Builds (width * height) (rasterized (frame_of grid width height) (mesh vertices.now indices.now triangle_areas.now) threshold) (store heads.old (slots free.old floors.old ceilings.old areas.old nexts.old) marks) (left (said_of result) (store heads.new (slots free.new floors.new ceilings.new areas.new nexts.new) (replicate (length nexts.old) 0))) }
+    ensures { (marks : List ℕ)
+        → Builds (width * height) (rasterized (frame_of grid width height) (mesh vertices.now indices.now triangle_areas.now) threshold)
+        (store heads.old (slots free.old floors.old ceilings.old areas.old nexts.old) marks)
+        (left (said_of result) (store heads.new (slots free.new floors.new ceilings.new areas.new nexts.new) (replicate (length nexts.old) 0))) }
 {
     let n = columns_of(width, height);
     let frame = frame_of(grid, width, height);
@@ -230,7 +239,9 @@ pub fn rasterize_triangles(
     triangle_areas: &[u8],
     threshold: u16,
 ) -> Reply
-    ensures { Rasterized grid (mesh vertices.now indices.now triangle_areas.now) threshold (store heads.old (slots free.old floors.old ceilings.old areas.old nexts.old) marks.old) (left (said_of result) (store heads.new (slots free.new floors.new ceilings.new areas.new nexts.new) marks.new)) }
+    ensures { Rasterized grid (mesh vertices.now indices.now triangle_areas.now) threshold
+        (store heads.old (slots free.old floors.old ceilings.old areas.old nexts.old) marks.old)
+        (left (said_of result) (store heads.new (slots free.new floors.new ceilings.new areas.new nexts.new) marks.new)) }
 {
     let admission = admit_mesh(
         grid,
@@ -281,7 +292,8 @@ pub fn rasterize_triangle(
     area: u8,
     threshold: u16,
 ) -> Reply
-    ensures { Rasterized grid (single a b c area) threshold (store heads.old (slots free.old floors.old ceilings.old areas.old nexts.old) marks.old) (left (said_of result) (store heads.new (slots free.new floors.new ceilings.new areas.new nexts.new) marks.new)) }
+    ensures { Rasterized grid (single a b c area) threshold (store heads.old (slots free.old floors.old ceilings.old areas.old nexts.old) marks.old)
+        (left (said_of result) (store heads.new (slots free.new floors.new ceilings.new areas.new nexts.new) marks.new)) }
 {
     let vertices = [a.x, a.y, a.z, b.x, b.y, b.z, c.x, c.y, c.z];
     let indices = [0u32, 1, 2];

@@ -36,7 +36,8 @@ fn put(
 ) -> Step
     requires ready { Ready job.frame heads.old × (x < job.frame.width) × (z < job.frame.height) × (floor ≤ ceiling) × (made < 4294967295) }
     requires by_index { (others : List ℕ) × Held (heads.old ++ others) (slots free.old floors.old ceilings.old areas.old nexts.old) }
-    ensures { (others : List ℕ) (f : Field) → Holds (heads.old ++ others) (slots free.old floors.old ceilings.old areas.old nexts.old) f → Carries job made f (insert x z floor ceiling ∷ []) result (heads.new ++ others) (slots free.new floors.new ceilings.new areas.new nexts.new) }
+    ensures { (others : List ℕ) (f : Field) → Holds (heads.old ++ others) (slots free.old floors.old ceilings.old areas.old nexts.old) f
+        → Carries job made f (insert x z floor ceiling ∷ []) result (heads.new ++ others) (slots free.new floors.new ceilings.new areas.new nexts.new) }
 {
     let column = (x + z * job.frame.width) as usize;
     let span = Span {
@@ -77,7 +78,9 @@ fn place(
 ) -> Step
     requires ready { Ready job.frame heads.old × (x < job.frame.width) × (z < job.frame.height) × (made < 4294967295) }
     requires by_index { (others : List ℕ) × Held (heads.old ++ others) (slots free.old floors.old ceilings.old areas.old nexts.old) }
-    ensures { (others : List ℕ) (f : Field) (part : List Corner) → least_of (map y_of part) ≡ low → greatest_of (map y_of part) ≡ high → Holds (heads.old ++ others) (slots free.old floors.old ceilings.old areas.old nexts.old) f → Carries job made f (cell_events job.frame z x part) result (heads.new ++ others) (slots free.new floors.new ceilings.new areas.new nexts.new) }
+    ensures { (others : List ℕ) (f : Field) (part : List Corner) → least_of (map y_of part) ≡ low → greatest_of (map y_of part) ≡ high
+        → Holds (heads.old ++ others) (slots free.old floors.old ceilings.old areas.old nexts.old) f
+        → Carries job made f (cell_events job.frame z x part) result (heads.new ++ others) (slots free.new floors.new ceilings.new areas.new nexts.new) }
 {
     let f = job.frame;
     match clip::heights::snap_of(low, high, f.grid.min.y, f.tall, f.rise) {
@@ -105,7 +108,10 @@ fn column(
 ) -> Step
     requires ready { Ready job.frame heads.old × (k ≤ job.frame.width) × (z < job.frame.height) × (made < 4294967295) }
     requires by_index { (others : List ℕ) × Held (heads.old ++ others) (slots free.old floors.old ceilings.old areas.old nexts.old) }
-    ensures { (others : List ℕ) (f : Field) (first second : List Corner) → d ≡ piece_of first second → Holds (heads.old ++ others) (slots free.old floors.old ceilings.old areas.old nexts.old) f → Carries job made f (turn_events d.counts (cell_events job.frame z) k first) result (heads.new ++ others) (slots free.new floors.new ceilings.new areas.new nexts.new) }
+    ensures { (others : List ℕ) (f : Field) (first second : List Corner) → d ≡ piece_of first second
+        → Holds (heads.old ++ others) (slots free.old floors.old ceilings.old areas.old nexts.old) f
+        → Carries job made f (turn_events d.counts (cell_events job.frame z) k first) result (heads.new ++ others)
+        (slots free.new floors.new ceilings.new areas.new nexts.new) }
 {
     match part_of(d.counts, k) {
         Part::Eighth => Step::Stopped(Stop::EighthVertex, made),
@@ -146,7 +152,9 @@ fn columns(
 ) -> Step
     requires ready { Ready job.frame heads.old × (z < job.frame.height) × (n ≤ 7) × (last ≤ job.frame.width) × (made ≤ 16781312) × BothPlaces xs.now ys.now }
     requires by_index { (others : List ℕ) × Held (heads.old ++ others) (slots free.old floors.old ceilings.old areas.old nexts.old) }
-    ensures { (others : List ℕ) (f : Field) → Holds (heads.old ++ others) (slots free.old floors.old ceilings.old areas.old nexts.old) f → Carries job made f (turns_to Axis.X (edge_at job.frame Axis.X) (cell_events job.frame z) last first (flat_at xs.now ys.now 0 n)) result (heads.new ++ others) (slots free.new floors.new ceilings.new areas.new nexts.new) }
+    ensures { (others : List ℕ) (f : Field) → Holds (heads.old ++ others) (slots free.old floors.old ceilings.old areas.old nexts.old) f
+        → Carries job made f (turns_to Axis.X (edge_at job.frame Axis.X) (cell_events job.frame z) last first (flat_at xs.now ys.now 0 n)) result
+        (heads.new ++ others) (slots free.new floors.new ceilings.new areas.new nexts.new) }
 {
     let grid = job.frame.grid;
     let mut px = *xs;
@@ -189,7 +197,9 @@ fn row(
 ) -> Step
     requires ready { Ready job.frame heads.old × (z < job.frame.height) × (n ≤ 7) × (made ≤ 16781312) × BothPlaces xs.now ys.now }
     requires by_index { (others : List ℕ) × Held (heads.old ++ others) (slots free.old floors.old ceilings.old areas.old nexts.old) }
-    ensures { (others : List ℕ) (f : Field) → Holds (heads.old ++ others) (slots free.old floors.old ceilings.old areas.old nexts.old) f → Carries job made f (row_events job.frame z (flat_at xs.now ys.now 0 n)) result (heads.new ++ others) (slots free.new floors.new ceilings.new areas.new nexts.new) }
+    ensures { (others : List ℕ) (f : Field) → Holds (heads.old ++ others) (slots free.old floors.old ceilings.old areas.old nexts.old) f
+        → Carries job made f (row_events job.frame z (flat_at xs.now ys.now 0 n)) result (heads.new ++ others)
+        (slots free.new floors.new ceilings.new areas.new nexts.new) }
 {
     let f = job.frame;
     let x0 = clip::slices::cell_at(f.grid.min.x, f.inverse, clip::slices::least_of(xs, n));
@@ -221,7 +231,9 @@ fn row_at(
 ) -> Step
     requires ready { Ready job.frame heads.old × (k ≤ job.frame.height) × (made ≤ 16781312) × BothPlaces xs.now ys.now }
     requires by_index { (others : List ℕ) × Held (heads.old ++ others) (slots free.old floors.old ceilings.old areas.old nexts.old) }
-    ensures { (others : List ℕ) (f : Field) → Holds (heads.old ++ others) (slots free.old floors.old ceilings.old areas.old nexts.old) f → Carries job made f (turn_events d (row_events job.frame) k (flat_at xs.now ys.now 0 d.first)) result (heads.new ++ others) (slots free.new floors.new ceilings.new areas.new nexts.new) }
+    ensures { (others : List ℕ) (f : Field) → Holds (heads.old ++ others) (slots free.old floors.old ceilings.old areas.old nexts.old) f
+        → Carries job made f (turn_events d (row_events job.frame) k (flat_at xs.now ys.now 0 d.first)) result (heads.new ++ others)
+        (slots free.new floors.new ceilings.new areas.new nexts.new) }
 {
     match part_of(d, k) {
         Part::Eighth => Step::Stopped(Stop::EighthVertex, made),
@@ -260,7 +272,9 @@ pub(crate) fn rows(
 ) -> Step
     requires ready { Ready job.frame heads.old × (last ≤ job.frame.height) × AllPlaces xs.now ys.now zs.now }
     requires by_index { (others : List ℕ) × Held (heads.old ++ others) (slots free.old floors.old ceilings.old areas.old nexts.old) }
-    ensures { (others : List ℕ) (f : Field) → Holds (heads.old ++ others) (slots free.old floors.old ceilings.old areas.old nexts.old) f → Carries job 0 f (turns_to Axis.Z (edge_at job.frame Axis.Z) (row_events job.frame) last first (polygon_at (arrays xs.now ys.now zs.now) 0 3)) result (heads.new ++ others) (slots free.new floors.new ceilings.new areas.new nexts.new) }
+    ensures { (others : List ℕ) (f : Field) → Holds (heads.old ++ others) (slots free.old floors.old ceilings.old areas.old nexts.old) f
+        → Carries job 0 f (turns_to Axis.Z (edge_at job.frame Axis.Z) (row_events job.frame) last first (polygon_at (arrays xs.now ys.now zs.now) 0 3)) result
+        (heads.new ++ others) (slots free.new floors.new ceilings.new areas.new nexts.new) }
 {
     let grid = job.frame.grid;
     let mut px = *xs;
