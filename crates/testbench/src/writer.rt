@@ -1,6 +1,6 @@
 // What the program writes. Bytes gather in `bytes`, of which the first `at` wait, and go out together when there is no more room or the program is to wait for input.
 // After a write that failed no more goes out, and the next flush answers its error.
-ghost use Rattle.std.specs.Prelude.{◌<◌};
+ghost use Rattle.std.specs.Prelude.{◌<◌, ◌≤◌};
 
 use std::io;
 use std::io::{Stdout, Write};
@@ -59,32 +59,31 @@ pub fn say_byte(out: &mut Out, b: u8) {
 
 // A whole number in decimal digits.
 pub fn say_number(out: &mut Out, n: u64) {
-    let mut text = [0u8; 20];
-    let mut from = 20;
-    let mut rest = n;
-    while from > 0 {
-        from -= 1;
-        text[from] = digit(rest % 10);
-        rest /= 10;
-        if rest == 0 {
-            break;
-        }
-    }
-    say(out, &text[from..]);
+    say_digits(out, n, 10, 1);
 }
 
 // A word as `0x` and eight digits.
 pub fn say_bits(out: &mut Out, n: u32) {
-    let mut text = [0u8; 8];
-    let mut from = 8;
-    let mut rest = n as u64;
-    while from > 0 {
-        from -= 1;
-        text[from] = digit(rest % 16);
-        rest /= 16;
-    }
     say(out, b"0x");
-    say(out, &text);
+    say_digits(out, n as u64, 16, 8);
+}
+
+// A whole number in digits of this base, `least` of them or more.
+fn say_digits(out: &mut Out, n: u64, base: u64, least: usize)
+    requires { (0 < base) × (base ≤ 16) }
+{
+    let mut text = [0u8; 20];
+    let mut from = 20;
+    let mut rest = n;
+    while from > 0 {
+        if rest == 0 && 20 - from >= least {
+            break;
+        }
+        from -= 1;
+        text[from] = digit(rest % base);
+        rest /= base;
+    }
+    say(out, &text[from..]);
 }
 
 // A digit of base ten or sixteen: 0 to 9, then a to f.
