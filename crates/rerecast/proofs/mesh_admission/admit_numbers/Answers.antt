@@ -12,17 +12,14 @@ use mathlib.Core.Bool.{not}
 use Rattle.rerecast.proofs.mesh_admission.admit_numbers.Goals as goal
 use Rattle.rerecast.proofs.mesh_admission.admit_numbers.Goals.{Start}
 
-abbrev lent : Start → Mesh
-lent s = mesh s.args.vertices.now s.args.indices.now []
-
 pub returns-then-not-all_named : goal.returns-then-not-all_named
-returns-then-not-all_named c = inl (says-false {P = Named (lent c.before.before.before.before.before)} c.all_named.result (ap not c.if-not-all_named.true) c.all_named.ensures, refl)
+returns-then-not-all_named c = inl (says-false _ (ap not c.if-not-all_named.true) c.all_named.ensures, refl)
 
 pub returns-in-Inside : goal.returns-in-Inside
 returns-in-Inside c = (
   (refl, refl),
   (
-    says-true {P = Named (lent c.before.before.before.before.before.before.before)} c.all_named.result (ap not c.if-not-all_named.false) c.all_named.ensures,
+    says-true _ (ap not c.if-not-all_named.false) c.all_named.ensures,
     ap (λ (k : Said). k.number) (sym (ap limits_say (sym c.in-Inside.is) ∙ c.vertex_limits-limits.ensures)),
   ),
 )
@@ -31,6 +28,6 @@ pub returns-in-Outside : goal.returns-in-Outside
 returns-in-Outside c =
     let said = ap limits_say (sym c.in-Outside.is) ∙ c.vertex_limits-limits.ensures in
     inr (
-      says-true {P = Named (lent c.before.before.before.before.before.before.before)} c.all_named.result (ap not c.if-not-all_named.false) c.all_named.ensures,
+      says-true _ (ap not c.if-not-all_named.false) c.all_named.ensures,
       inl (λ e. let z = ap (λ (k : Said). k.number) said ∙ e in absurd (omega (arith, z)), said),
     )

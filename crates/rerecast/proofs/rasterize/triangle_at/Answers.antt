@@ -13,21 +13,18 @@ use Rattle.rerecast.proofs.rasterize.triangle_at.Goals.{Start}
 pub corner-a-requires : goal.corner-a-requires
 corner-a-requires c =
     let inside : c.args.t * 3 < length c.args.indices.now = omega (arith, c.requires.ready.3, c.requires.ready.1.triangles) in
-    (inside, c.requires.ready.2 (c.args.t * 3) inside)
+    (inside, c.requires.ready.2 _ inside)
 
 pub corner-b-requires : goal.corner-b-requires
 corner-b-requires c =
     let inside : c.args.t * 3 + 1 < length c.args.indices.now = omega (arith, c.requires.ready.3, c.requires.ready.1.triangles) in
-    (inside, c.requires.ready.2 (c.args.t * 3 + 1) inside)
+    (inside, c.requires.ready.2 _ inside)
 
 pub corner-c-requires : goal.corner-c-requires
 corner-c-requires c =
     let inside : c.args.t * 3 + 2 < length c.args.indices.now = omega (arith, c.requires.ready.3, c.requires.ready.1.triangles) in
-    (inside, c.requires.ready.2 (c.args.t * 3 + 2) inside)
+    (inside, c.requires.ready.2 _ inside)
 
 pub returns : goal.returns
 returns c others f H =
-    let meshed : Mesh = mesh c.args.vertices.now c.args.indices.now c.args.triangle_areas.now in
-    let events : triangle_events c.args.frame (corners_of (meshed) c.args.t) ≡ triangle_events c.args.frame (c.corner-a.result ∷ c.corner-b.result ∷ c.corner-c.result ∷ []) =
-    rw (c.corner-a.ensures, c.corner-b.ensures, c.corner-c.ensures) in
-    remains-of c.args.frame.width c.args.threshold _ 0 f events (c.triangle.ensures others f H)
+    remains-of _ _ _ 0 f (rw (c.corner-a.ensures, c.corner-b.ensures, c.corner-c.ensures)) (c.triangle.ensures others f H)
