@@ -9,11 +9,3 @@ use Rattle.rerecast.proofs.admission.admit.Goals as goal
 
 pub admit_store-requires : goal.admit_store-requires
 admit_store-requires c = few-columns c.args.grid (granted _ _ c.size_of-size.ensures c.in-Granted.is)
-
-pub returns-in-Refused : goal.returns-in-Refused
-returns-in-Refused c =
-    let k = refused _ _ c.size_of-size.ensures c.in-Refused.is in inl (k.0, rw k.1)
-
-pub returns-in-Granted : goal.returns-in-Granted
-returns-in-Granted c =
-    admits-call _ _ _ _ _ _ _ (granted _ _ c.size_of-size.ensures c.in-Granted.is) c.admit_store.ensures

@@ -10,11 +10,3 @@ use Rattle.rerecast.proofs.heightfield.fresh.Goals as goal
 
 pub fresh_store-requires : goal.fresh_store-requires
 fresh_store-requires c = few-columns c.args.grid (granted _ _ c.size_of-size.ensures c.in-Granted.is)
-
-pub returns-in-Refused : goal.returns-in-Refused
-returns-in-Refused c =
-    let k = refused _ _ c.size_of-size.ensures c.in-Refused.is in inl (k.0, rw k.1)
-
-pub returns-in-Granted : goal.returns-in-Granted
-returns-in-Granted c =
-    freshened c.args.grid _ _ _ _ _ (granted _ _ c.size_of-size.ensures c.in-Granted.is) c.fresh_store.ensures

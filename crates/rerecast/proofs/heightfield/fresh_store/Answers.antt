@@ -10,20 +10,6 @@ use mathlib.Core.Path.{ap}
 use mathlib.Core.Bool.{not}
 use Rattle.rerecast.proofs.heightfield.fresh_store.Goals as goal
 
-pub returns-then-not-fit : goal.returns-then-not-fit
-returns-then-not-fit c =
-    inl (λ f. says-false _ (ap not c.if-not-fit.true) c.slices_fit-fit.ensures (rw c.columns_of-n.ensures f), refl)
-
-pub slice_bounds-clear_heads-end : goal.slice_bounds-clear_heads-end
-slice_bounds-clear_heads-end c = (says-true _ (ap not c.if-not-fit.false) c.slices_fit-fit.ensures).enough
-
-pub slice_bounds-clear_heads-end-2 : goal.slice_bounds-clear_heads-end-2
-slice_bounds-clear_heads-end-2 c =
-    sym (length-take-le _ _ (says-true _ (ap not c.if-not-fit.false) c.slices_fit-fit.ensures).enough)
-
-pub chain_slots-requires : goal.chain_slots-requires
-chain_slots-requires c = let f = says-true _ (ap not c.if-not-fit.false) c.slices_fit-fit.ensures in (f.some, f.few)
-
 pub returns : goal.returns
 returns c =
     let n = c.columns_of-n.ensures in

@@ -10,23 +10,10 @@ use Rattle.field.proofs.Offering.{insert-ready, answers, offer-accepted, offer-r
 use Rattle.rerecast.proofs.Told.{landed, not-landed}
 use Rattle.rerecast.proofs.heightfield.offer.Goals as goal
 
-pub returns-then-x-width : goal.returns-then-x-width
-returns-then-x-width c marks = inl (λ p. omega (arith, p.0, c.if-x-width.true), refl)
-
-pub returns-then-z-height : goal.returns-then-z-height
-returns-then-z-height c marks = inl (λ p. omega (arith, p.1, c.if-z-height.true), refl)
-
-pub returns-then-new : goal.returns-then-new
-returns-then-new c marks = inr ((c.if-x-width.false, c.if-z-height.false), inl (λ p. omega (arith, c.if-new.true), refl))
-
-pub slice_bounds-insert_span-end-2 : goal.slice_bounds-insert_span-end-2
-slice_bounds-insert_span-end-2 c = sym (length-take-le c.columns_of-n.result c.args.heads.now (omega (arith, c.requires.height_in_bounds.0, c.columns_of-n.ensures)))
-
-pub insert_span-landing-requires : goal.insert_span-landing-requires
-insert_span-landing-requires c =
-    let k = insert-ready _ _ _ _ c.args.new c.args.threshold _ _ [] c.requires.height_in_bounds.0 c.if-x-width.false c.if-z-height.false
-      c.columns_of-n.ensures c.column_of-column.ensures.0 c.requires.held in
-    record { column_in_bounds = k.0; floor_le_ceiling = c.if-new.false; by_index = k.1 }
+pub insert_span-landing-requires-clause-by_index : goal.insert_span-landing-requires-clause-by_index
+insert_span-landing-requires-clause-by_index c =
+    (insert-ready _ _ _ _ c.args.new c.args.threshold _ _ [] c.requires.height_in_bounds.0 c.if-x-width.false c.if-z-height.false
+    c.columns_of-n.ensures c.column_of-column.ensures.0 c.requires.held).1
 
 pub returns-in-Landed : goal.returns-in-Landed
 returns-in-Landed c marks =

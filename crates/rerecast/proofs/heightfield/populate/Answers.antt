@@ -12,20 +12,10 @@ use Rattle.rerecast.proofs.Rasterizing.{framed}
 use Rattle.rerecast.proofs.heightfield.populate.Goals as goal
 use Rattle.rerecast.proofs.heightfield.populate.Goals.{Start}
 
-pub columns_of-n-requires : goal.columns_of-n-requires
-columns_of-n-requires c = c.requires.sides.0.few
-
-pub slice_bounds-build-end-2 : goal.slice_bounds-build-end-2
-slice_bounds-build-end-2 c = sym (length-take-le c.columns_of-n.result c.args.heads.now (omega (arith, c.requires.sides.1, c.columns_of-n.ensures)))
-
-pub build-ending-requires : goal.build-ending-requires
-build-ending-requires c =
-    let n = c.columns_of-n.ensures in
+pub build-ending-requires-clause-ready : goal.build-ending-requires-clause-ready
+build-ending-requires-clause-ready c =
     let p = c.requires.sides in
-    record {
-      ready = (framed c.args.grid _ _ c.frame_of-frame.ensures p.0 (first-heads _ _ _ _ p.1 c.requires.held n), p.2, p.3);
-      held = first-held _ _ _ _ p.1 c.requires.held n;
-    }
+    (framed c.args.grid _ _ c.frame_of-frame.ensures p.0 (first-heads _ _ _ _ p.1 c.requires.held c.columns_of-n.ensures), p.2, p.3)
 
 pub returns : goal.returns
 returns c marks =

@@ -5,10 +5,6 @@ use Rattle.field.specs.Marks.{Climbs}
 use Rattle.field.proofs.Marking.{marking-start, marking-less, marking-room, marking-out, marking-twice, marking-low, marking-thin, marking-climb, marking-end}
 use Rattle.rerecast.proofs.soundness.mark_column.Goals as goal
 
-pub loop-at-init : goal.loop-at-init
-loop-at-init c =
-    let p = c.requires in (marking-start _ _ _ _ _ p.marks_len.0 p.marks_len.1 p.flags.0 p.flags.1, p.floors_len)
-
 pub returns-then-i-nexts : goal.returns-then-i-nexts
 returns-then-i-nexts c = marking-out c.loop-at.invariant.0 c.loop-at-test.true (rw c.index-i.ensures at c.if-i-nexts.true)
 
@@ -23,9 +19,6 @@ pub returns-then-ceiling-floor : goal.returns-then-ceiling-floor
 returns-then-ceiling-floor c =
     marking-thin _ _ c.loop-at.invariant.0 c.loop-at-test.true c.index-i.ensures c.wide-floor.ensures c.wide-ceiling.ensures
     c.if-ceiling-floor.true
-
-pub overflow_add-n : goal.overflow_add-n
-overflow_add-n c = omega (arith, marking-room c.loop-at.invariant.0)
 
 pub loop-at-smaller : goal.loop-at-smaller
 loop-at-smaller c =

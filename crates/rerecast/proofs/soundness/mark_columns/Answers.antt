@@ -10,11 +10,6 @@ pub loop-i-init : goal.loop-i-init
 loop-i-init c =
     (surveyed-start _ _ _ _ _ c.requires.floors_len c.requires.nexts_len_bound.0 c.requires.nexts_len_bound.1, refl)
 
-pub mark_column-tally-requires : goal.mark_column-tally-requires
-mark_column-tally-requires c =
-    let s = c.loop-i.invariant.0 in
-    record { floors_len = s.sizes; marks_len = (s.size, s.few); flags = (surveyed-flags s c.loop-i-test.true, s.count) }
-
 pub returns-in_default : goal.returns-in_default
 returns-in_default c =
     surveyed-broken c.loop-i.invariant.0 c.loop-i-test.true
@@ -27,6 +22,3 @@ loop-i-preserved c =
       surveyed-step c.loop-i.invariant.0 c.loop-i-test.true (marked _ _ _ _ _ _ c.mark_column-tally.ensures c.in-Marked.is) size,
       size ∙ c.loop-i.invariant.1,
     )
-
-pub returns : goal.returns
-returns c = surveyed-end c.loop-i.invariant.0 c.loop-i-test.false

@@ -11,27 +11,11 @@ use Rattle.field.proofs.Judging.{judged-columns, columns-flags, judged-spare, ju
 use Rattle.rerecast.proofs.Told.{marked, broken, marked_all, broken-all}
 use Rattle.rerecast.proofs.soundness.test_marked.Goals as goal
 
--- a list as long as the zeros has as many elements as they were asked for
-as-long : {n k : ℕ} {zeros : List ℕ} → zeros ≡ replicate n 0 → k ≡ length zeros → k ≡ n
-as-long {n} e size = size ∙ ap length e ∙ length-replicate n 0
-
 pub returns-in_default : goal.returns-in_default
 returns-in_default c ar za =
     let p = c.requires in
     judged-columns _ _ _ _ _ ar p.floors_len.0 p.floors_len.1 za p.nexts_len_bound.0
     (broken-all _ _ _ _ _ _ c.mark_columns-columns.ensures c.in_default.is)
-
-pub mark_free-spare-requires : goal.mark_free-spare-requires
-mark_free-spare-requires c =
-    let p = c.requires in
-    let m = marked_all _ _ _ _ _ _ c.mark_columns-columns.ensures c.in-Marked.is in
-    record {
-      marks_len = (as-long p.nexts_len_bound.1 c.mark_columns-columns.auto.marks, p.nexts_len_bound.0);
-      flags = (
-        columns-flags _ c.args.free _ _ _ _ p.floors_len.0 p.floors_len.1 p.floors_len.0 p.nexts_len_bound.0 _ m,
-        m.count,
-      );
-    }
 
 pub returns-in_default-spare : goal.returns-in_default-spare
 returns-in_default-spare c ar za =
@@ -46,5 +30,5 @@ returns c ar za =
     let j = judged _ _ _ _ _ ar p.floors_len.0 p.floors_len.1 za p.nexts_len_bound.0 _
       (marked_all _ _ _ _ _ _ c.mark_columns-columns.ensures c.in-Marked.is) _
       (marked _ _ _ _ _ _ c.mark_free-spare.ensures c.in-Marked-spare.is)
-      (c.mark_free-spare.auto.marks ∙ as-long p.nexts_len_bound.1 c.mark_columns-columns.auto.marks) in
+      (c.mark_free-spare.auto.marks ∙ c.mark_columns-columns.auto.marks ∙ ap length p.nexts_len_bound.1 ∙ length-replicate _ 0) in
     says_if _ (λ e. j.0 (eqb-true _ _ e)) (λ e f. eqb-false _ _ e (j.1 f))
