@@ -1,9 +1,5 @@
 -- `add_span` meets its contract: the tests of every call, and past them the offer.
-use lib.ListN.{length}
-use Rattle.field.specs.Slots.{slots}
-use Rattle.field.specs.Store.{store}
-use Rattle.rerecast.specs.Answer.{said_of}
-use Rattle.rerecast.proofs.Admitted.{call-granted, call-refused, call-ready, added-refused, added-offered}
+use Rattle.rerecast.proofs.Admitted.{call-granted, call-ready, added-offered}
 use Rattle.rerecast.proofs.heightfield.add_span.Goals as goal
 
 pub offer-requires-clause-height_in_bounds : goal.offer-requires-clause-height_in_bounds

@@ -1,10 +1,6 @@
 -- `fresh_store` meets its contract: the test of the slices, and past it each list filled.
-use Prim.Native.Nat.{◌*◌}
-use mathlib.Core.Path.{refl, sym}
-use mathlib.Core.Logic.{inl, inr}
-use lib.Seq.{length-take-le}
-use Rattle.field.specs.Slots.{slots}
-use Rattle.field.proofs.Basics.{says-true, says-false}
+use mathlib.Core.Logic.{inr}
+use Rattle.field.proofs.Basics.{says-true}
 use Rattle.field.proofs.Emptying.{fresh-made}
 use mathlib.Core.Path.{ap}
 use mathlib.Core.Bool.{not}

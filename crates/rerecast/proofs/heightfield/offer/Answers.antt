@@ -1,11 +1,5 @@
 -- `offer` meets its contract: its tests of place and order, and past them the insertion.
-use mathlib.Core.Path.{refl, sym}
-use mathlib.Core.Logic.{inl, inr}
 use mathlib.Core.List.{[]}
-use native.Mathlib.Omega.{arith}
-use lib.Seq.{length-take-le}
-use Rattle.field.specs.Slots.{slots}
-use Rattle.field.specs.Field.{insert}
 use Rattle.field.proofs.Offering.{insert-ready, answers, offer-accepted, offer-refused}
 use Rattle.rerecast.proofs.Told.{landed, not-landed}
 use Rattle.rerecast.proofs.heightfield.offer.Goals as goal

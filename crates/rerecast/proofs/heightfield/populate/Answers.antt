@@ -1,16 +1,11 @@
 -- `heightfield::populate` meets its contract: mesh and filters work on the heads of the grid's columns, and the heads past them stay.
-use mathlib.Core.Path.{sym, ◌∙◌}
-use native.Mathlib.Omega.{arith}
-use lib.Seq.{length-take-le}
+use mathlib.Core.Path.{◌∙◌}
 use Rattle.clip.specs.Work.{frame_of}
-use Rattle.field.specs.Slots.{Slots, slots}
-use Rattle.field.specs.Meshes.{Mesh, mesh}
+use Rattle.field.specs.Meshes.{mesh}
 use Rattle.field.specs.Populate.{populated}
-use Rattle.field.proofs.Taking.{first-heads, first-held, mesh-built}
-use Rattle.rerecast.specs.Answer.{said_of}
+use Rattle.field.proofs.Taking.{first-heads, mesh-built}
 use Rattle.rerecast.proofs.Rasterizing.{framed}
 use Rattle.rerecast.proofs.heightfield.populate.Goals as goal
-use Rattle.rerecast.proofs.heightfield.populate.Goals.{Start}
 
 pub build-ending-requires-clause-ready : goal.build-ending-requires-clause-ready
 build-ending-requires-clause-ready c =

@@ -30,9 +30,8 @@ link-requires-clause-before_in_bounds c =
 pub returns : goal.returns
 returns c others f H =
     let l = landed _ others H _ c.requires.column_in_bounds _ _ c.pass-place.ensures c.merge-merged.ensures
-      c.requires.floor_le_ceiling c.if-free-eq-NONE.false in
-    (
+    c.requires.floor_le_ceiling c.if-free-eq-NONE.false in (
       (l.0, (c.take_front-s.ensures.0 ∙ l.1.0, l.1.1)),
       is-accepted _ others H _ c.requires.column_in_bounds _ _ c.pass-place.ensures c.merge-merged.ensures
-      c.requires.floor_le_ceiling c.if-free-eq-NONE.false c.take_front-s.ensures.0 c.take_front-s.ensures.1 c.link.ensures.0 c.link.ensures.1,
+          c.requires.floor_le_ceiling c.if-free-eq-NONE.false c.take_front-s.ensures.0 c.take_front-s.ensures.1 c.link.ensures.0 c.link.ensures.1,
     )

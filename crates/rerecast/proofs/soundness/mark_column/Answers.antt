@@ -1,8 +1,6 @@
 -- `mark_column` meets its contract. The loop's invariant: what is left of the chain is one of unmarked slots whose spans ascend exactly if the whole is.
 -- The measure is how many slots are not marked.
-use native.Mathlib.Omega.{arith}
-use Rattle.field.specs.Marks.{Climbs}
-use Rattle.field.proofs.Marking.{marking-start, marking-less, marking-room, marking-out, marking-twice, marking-low, marking-thin, marking-climb, marking-end}
+use Rattle.field.proofs.Marking.{marking-less, marking-out, marking-twice, marking-low, marking-thin, marking-climb, marking-end}
 use Rattle.rerecast.proofs.soundness.mark_column.Goals as goal
 
 pub returns-then-i-nexts : goal.returns-then-i-nexts
@@ -27,10 +25,9 @@ loop-at-smaller c =
 
 pub loop-at-preserved : goal.loop-at-preserved
 loop-at-preserved c =
-    let i = c.index-i.ensures in
-    (
+    let i = c.index-i.ensures in (
       marking-climb _ _ c.loop-at.invariant.0 c.loop-at-test.true i c.wide-floor.ensures c.wide-ceiling.ensures
-      (rw i at c.if-i-nexts.false) (rw i at c.if-marks-i-ne0.false) c.if-floor-low.false c.if-ceiling-floor.false,
+          (rw i at c.if-i-nexts.false) (rw i at c.if-marks-i-ne0.false) c.if-floor-low.false c.if-ceiling-floor.false,
       c.loop-at.invariant.1,
     )
 

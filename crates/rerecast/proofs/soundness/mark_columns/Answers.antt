@@ -1,8 +1,6 @@
 -- `mark_columns` meets its contract. The loop's invariant: the first columns are marked.
 use mathlib.Core.Path.{refl, ◌∙◌}
-use lib.ListN.{get_or}
-use Rattle.field.specs.Marks.{Climbs}
-use Rattle.field.proofs.Surveying.{surveyed-start, surveyed-flags, surveyed-broken, surveyed-step, surveyed-end}
+use Rattle.field.proofs.Surveying.{surveyed-start, surveyed-broken, surveyed-step}
 use Rattle.rerecast.proofs.Told.{marked, broken}
 use Rattle.rerecast.proofs.soundness.mark_columns.Goals as goal
 
@@ -17,8 +15,7 @@ returns-in_default c =
 
 pub loop-i-preserved : goal.loop-i-preserved
 loop-i-preserved c =
-    let size = c.mark_column-tally.auto.marks in
-    (
+    let size = c.mark_column-tally.auto.marks in (
       surveyed-step c.loop-i.invariant.0 c.loop-i-test.true (marked _ _ _ _ _ _ c.mark_column-tally.ensures c.in-Marked.is) size,
       size ∙ c.loop-i.invariant.1,
     )

@@ -1,13 +1,9 @@
 -- `test_marked` meets its contract: a broken chain rules a sound field out, and else the number of marked slots decides.
 use mathlib.Core.Path.{ap, ◌∙◌}
 use borrow.Author.Tests.{eqb-true, eqb-false}
-use mathlib.Core.Path.{◌≡◌}
-use mathlib.Core.List.{List}
-use Prim.Native.Nat.{ℕ}
-use lib.ListN.{length, replicate, length-replicate}
-use Rattle.field.specs.Marks.{Any}
+use lib.ListN.{length, length-replicate}
 use Rattle.field.proofs.Basics.{says_if}
-use Rattle.field.proofs.Judging.{judged-columns, columns-flags, judged-spare, judged}
+use Rattle.field.proofs.Judging.{judged-columns, judged-spare, judged}
 use Rattle.rerecast.proofs.Told.{marked, broken, marked_all, broken-all}
 use Rattle.rerecast.proofs.soundness.test_marked.Goals as goal
 
@@ -28,7 +24,7 @@ pub returns : goal.returns
 returns c ar za =
     let p = c.requires in
     let j = judged _ _ _ _ _ ar p.floors_len.0 p.floors_len.1 za p.nexts_len_bound.0 _
-      (marked_all _ _ _ _ _ _ c.mark_columns-columns.ensures c.in-Marked.is) _
-      (marked _ _ _ _ _ _ c.mark_free-spare.ensures c.in-Marked-spare.is)
-      (c.mark_free-spare.auto.marks ∙ c.mark_columns-columns.auto.marks ∙ ap length p.nexts_len_bound.1 ∙ length-replicate _ 0) in
+    (marked_all _ _ _ _ _ _ c.mark_columns-columns.ensures c.in-Marked.is) _
+    (marked _ _ _ _ _ _ c.mark_free-spare.ensures c.in-Marked-spare.is)
+    (c.mark_free-spare.auto.marks ∙ c.mark_columns-columns.auto.marks ∙ ap length p.nexts_len_bound.1 ∙ length-replicate _ 0) in
     says_if _ (λ e. j.0 (eqb-true _ _ e)) (λ e f. eqb-false _ _ e (j.1 f))
