@@ -6,12 +6,12 @@ use Rattle.rerecast.proofs.heightfield.offer.Goals as goal
 
 pub insert_span-landing-requires-clause-by_index : goal.insert_span-landing-requires-clause-by_index
 insert_span-landing-requires-clause-by_index c =
-    (insert-ready _ _ _ _ c.args.new c.args.threshold _ _ [] c.requires.height_in_bounds.0 c.if-x-width.false c.if-z-height.false
+    (insert-ready _ _ c.args.x _ c.args.new c.args.threshold _ _ [] c.requires.height_in_bounds.0 c.if-x-width.false c.if-z-height.false
     c.columns_of-n.ensures c.column_of-column.ensures.0 c.requires.held).1
 
 pub returns-in-Landed : goal.returns-in-Landed
 returns-in-Landed c marks =
-    offer-accepted _ _ _ _ _ _ _ _ marks c.requires.height_in_bounds.0 c.if-x-width.false c.if-z-height.false
+    offer-accepted _ _ _ _ c.args.new _ _ _ marks c.requires.height_in_bounds.0 c.if-x-width.false c.if-z-height.false
     c.columns_of-n.ensures c.column_of-column.ensures.0 c.if-new.false c.requires.held _ _ c.insert_span-landing.auto.heads
     (answers _ _ _ _ _ _ _ _ marks c.requires.height_in_bounds.0 c.if-x-width.false c.if-z-height.false
     c.columns_of-n.ensures c.column_of-column.ensures.0 c.if-new.false c.requires.held _ _ c.insert_span-landing.auto.heads
@@ -19,7 +19,7 @@ returns-in-Landed c marks =
 
 pub returns-in-Refused : goal.returns-in-Refused
 returns-in-Refused c marks =
-    offer-refused _ _ _ _ _ _ _ _ marks c.requires.height_in_bounds.0 c.if-x-width.false c.if-z-height.false
+    offer-refused _ _ _ _ c.args.new _ _ _ marks c.requires.height_in_bounds.0 c.if-x-width.false c.if-z-height.false
     c.columns_of-n.ensures c.column_of-column.ensures.0 c.if-new.false c.requires.held _ _ c.insert_span-landing.auto.heads
     (answers _ _ _ _ _ _ _ _ marks c.requires.height_in_bounds.0 c.if-x-width.false c.if-z-height.false
     c.columns_of-n.ensures c.column_of-column.ensures.0 c.if-new.false c.requires.held _ _ c.insert_span-landing.auto.heads
