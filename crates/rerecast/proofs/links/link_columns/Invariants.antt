@@ -13,7 +13,9 @@ abbrev pub invariant-loop-i : goal.invariant-loop-i
 invariant-loop-i l = let pass = passes l.tall l.climb in
     (l.i ≤ l.width * l.depth)
     × (length l.data ≡ length l.initial.data)
-    × ((cs : List (List Open)) → length cs ≡ l.width * l.depth → Shown cs l.cell_indices l.cell_counts l.ys l.initial.data → Threading (λ j. word_of pass (around l.width l.depth cs j)) (λ j. missed_of pass (around l.width l.depth cs j)) cs l.cell_indices l.cell_counts l.ys l.initial.data l.data l.i l.most)
+    × ((cs : List (List Open)) → length cs ≡ l.width * l.depth → Shown cs l.cell_indices l.cell_counts l.ys l.initial.data
+    → Threading (λ j. word_of pass (around l.width l.depth cs j)) (λ j. missed_of pass (around l.width l.depth cs j))
+    cs l.cell_indices l.cell_counts l.ys l.initial.data l.data l.i l.most)
 
 abbrev pub decreases-loop-i : goal.decreases-loop-i
 decreases-loop-i l = l.width * l.depth - l.i
