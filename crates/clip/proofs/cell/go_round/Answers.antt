@@ -1,5 +1,4 @@
--- `clip::cell::go_round` meets its contract. The loop's invariant is that of `clip::cut::go_round`: what the vertices from i on still make of the parts is what the whole round makes of them,
--- and so far no part has more than two vertices for each one passed.
+-- `clip::cell::go_round` meets its contract.
 use mathlib.Core.Path.{refl, sym, ap, ◌∙◌}
 use native.Mathlib.Omega.{arith}
 use Rattle.grid.specs.declared.Corner.{Corner}

@@ -1,5 +1,5 @@
--- `clip::cell::go_round` meets its contract. The loop's invariant is that of `clip::cut::go_round`: what the vertices from i on still make of the parts is what the whole round makes of them,
--- and so far no part has more than two vertices for each one passed.
+-- The loop's invariant is that of `clip::cut::go_round`: what the vertices from i on still make of the parts is what the whole round makes of them, and so
+-- far no part has more than two vertices for each one passed.
 use mathlib.Core.Path.{◌≡◌}
 use Prim.Native.Nat.{◌+◌, ◌-◌, ◌≤◌}
 use Rattle.clip.specs.declared.cut.Axis.TheVariants.{X}

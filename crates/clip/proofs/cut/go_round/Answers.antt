@@ -1,5 +1,4 @@
--- `clip::cut::go_round` meets its contract. The loop's invariant: what the vertices from i on, with b before them, still make of the parts is what the whole round makes of them.
--- So far no part has more than two vertices for each one passed.
+-- `clip::cut::go_round` meets its contract.
 use mathlib.Core.Path.{◌≡◌, refl, sym, ap, ◌∙◌}
 use native.Mathlib.Omega.{arith}
 use lib.Ieee.{Float, binary32, sub}

@@ -1,5 +1,5 @@
--- `clip::cut::go_round` meets its contract. The loop's invariant: what the vertices from i on, with b before them, still make of the parts is what the whole round makes of them.
--- So far no part has more than two vertices for each one passed.
+-- The loop's invariant: what the vertices from i on, with b before them, still make of the parts is what the whole round makes of them. So far no part has
+-- more than two vertices for each one passed.
 use mathlib.Core.Path.{◌≡◌}
 use Prim.Native.Nat.{◌+◌, ◌-◌, ◌≤◌}
 use Rattle.clip.specs.Cut.{distance}

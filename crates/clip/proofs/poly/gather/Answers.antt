@@ -1,4 +1,4 @@
--- `clip::poly::gather` meets its contract. The loop's invariant: the vertices from i on, put where they belong, make what all of them make.
+-- `clip::poly::gather` meets its contract.
 use borrow.Author.Rules.{rules}
 use mathlib.Core.Path.{◌≡◌, sym, ◌∙◌}
 use Prim.Native.Nat.{◌-◌}

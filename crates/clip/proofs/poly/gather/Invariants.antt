@@ -1,4 +1,4 @@
--- `clip::poly::gather` meets its contract. The loop's invariant: the vertices from i on, put where they belong, make what all of them make.
+-- The loop's invariant: the vertices from i on, put where they belong, make what all of them make.
 use mathlib.Core.Path.{◌≡◌}
 use Prim.Native.Nat.{◌+◌, ◌-◌, ◌≤◌}
 use lib.Seq.{sets}

@@ -1,4 +1,4 @@
--- `clip::poly::spread` meets its contract. The loop's invariant: the vertices from i on, written where they belong, leave what all of them leave.
+-- `clip::poly::spread` meets its contract.
 use borrow.Author.Rules.{rules}
 use mathlib.Core.Path.{◌≡◌, refl, ap, ◌∙◌}
 use Prim.Native.Nat.{◌+◌, ◌≤◌}

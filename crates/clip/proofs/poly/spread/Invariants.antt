@@ -1,4 +1,4 @@
--- `clip::poly::spread` meets its contract. The loop's invariant: the vertices from i on, written where they belong, leave what all of them leave.
+-- The loop's invariant: the vertices from i on, written where they belong, leave what all of them leave.
 use mathlib.Core.Path.{◌≡◌}
 use Prim.Native.Nat.{◌-◌, ◌≤◌}
 use lib.ListN.{take, drop}

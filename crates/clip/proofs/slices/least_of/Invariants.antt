@@ -1,4 +1,4 @@
--- `clip::slices::least_of` meets its contract. The loop's invariant: y put together with the numbers from i on is what they all come to.
+-- The loop's invariant: y put together with the numbers from i on is what they all come to.
 use mathlib.Core.Path.{◌≡◌}
 use mathlib.Core.List.{foldl}
 use Prim.Native.Nat.{◌-◌, ◌≤◌}

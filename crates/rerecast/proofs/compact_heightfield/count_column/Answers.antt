@@ -1,4 +1,4 @@
--- The loop's invariant: what is counted, and what is left of the column, make the count of the whole. The column gets shorter.
+-- `count_column` meets its contract.
 use native.Mathlib.Omega.{arith}
 use Rattle.field.proofs.Chains.{chain-cons, chain-less}
 use Rattle.field.proofs.Tallying.{tallying-slot, tallying-step, tallying-end}

@@ -1,4 +1,4 @@
--- The loop's invariant: the open spaces left of the column end as all of it would. The column gets shorter.
+-- `fill_column` meets its contract.
 use Prim.Native.Nat.{ℕ}
 use mathlib.Core.Path.{◌≡◌, sym, ◌∙◌}
 use mathlib.Core.List.{List, map}

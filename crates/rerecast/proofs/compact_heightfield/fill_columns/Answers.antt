@@ -1,4 +1,4 @@
--- The loop's invariant: what is left of the columns ends as all of them would, and the slices keep their lengths.
+-- `fill_columns` meets its contract.
 use Prim.Native.Nat.{ℕ, ◌<◌, ◌≤◌}
 use mathlib.Core.List.{List}
 use lib.ListN.{length}

@@ -1,4 +1,4 @@
--- The loop's invariant: the cells so far are few enough, and their open spaces are counted.
+-- `tally_columns` meets its contract.
 use native.Mathlib.Numerals.{add-one}
 use native.Mathlib.Omega.{arith}
 use Rattle.field.specs.Open.{columns_of, cells}

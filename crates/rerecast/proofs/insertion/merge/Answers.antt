@@ -1,4 +1,4 @@
--- `merge` meets its contract. The loop's invariant: merging what is left of the chain ends as the whole would. The measure is how many slots are left.
+-- `merge` meets its contract.
 use Prim.Native.Nat.{◌≤◌, ◌<◌}
 use native.Mathlib.Omega.{arith}
 use lib.ListN.{length}

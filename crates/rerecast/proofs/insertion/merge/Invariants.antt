@@ -1,4 +1,4 @@
--- `merge` meets its contract. The loop's invariant: merging what is left of the chain ends as the whole would. The measure is how many slots are left.
+-- The loop's invariant: merging what is left of the chain ends as the whole would. The measure is how many slots are left.
 use lib.ListN.{length}
 use Rattle.field.specs.Slots.{slots}
 use Rattle.field.specs.Inner.{slots_from}

@@ -1,4 +1,4 @@
--- `pass` meets its contract. The loop's invariant: what is left of the column ends as the whole would. The measure is how many slots are left.
+-- `pass` meets its contract.
 use native.Mathlib.Omega.{arith}
 use Rattle.field.proofs.Chains.{chain-slot, chain-cons, chain-less}
 use Rattle.field.proofs.Passing.{passing-start, passing_step, passing-stop, passing-end}

@@ -1,4 +1,4 @@
--- `pass` meets its contract. The loop's invariant: what is left of the column ends as the whole would. The measure is how many slots are left.
+-- The loop's invariant: what is left of the column ends as the whole would. The measure is how many slots are left.
 use mathlib.Core.Path.{◌≡◌}
 use lib.ListN.{length}
 use Rattle.field.specs.Inner.{slots_from}

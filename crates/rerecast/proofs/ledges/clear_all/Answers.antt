@@ -1,4 +1,4 @@
--- `clear_all` meets its contract: what is left of the column ends as the whole would.
+-- `clear_all` meets its contract.
 use mathlib.Core.Path.{refl}
 use mathlib.Core.List.{[]}
 use native.Mathlib.Omega.{arith}

@@ -1,4 +1,4 @@
--- `clear_all` meets its contract: what is left of the column ends as the whole would.
+-- The loop's invariant: what is left of the column ends as the whole would.
 use Prim.Native.Nat.{ℕ}
 use mathlib.Core.List.{List}
 use lib.ListN.{length}

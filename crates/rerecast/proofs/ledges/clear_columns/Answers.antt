@@ -1,4 +1,4 @@
--- `clear_columns` meets its contract: after each column, what is left of them ends as the whole would.
+-- `clear_columns` meets its contract.
 use mathlib.Core.Path.{◌∙◌}
 use native.Mathlib.Numerals.{add-one}
 use native.Mathlib.Omega.{arith}

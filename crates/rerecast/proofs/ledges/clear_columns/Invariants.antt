@@ -1,4 +1,4 @@
--- `clear_columns` meets its contract: after each column, what is left of them ends as the whole would.
+-- The loop's invariant: after each column, what is left of them ends as the whole would.
 use Prim.Native.Nat.{ℕ, ◌+◌, ◌*◌, ◌-◌, ◌<◌, ◌≤◌}
 use mathlib.Core.Path.{◌≡◌}
 use lib.ListN.{length}

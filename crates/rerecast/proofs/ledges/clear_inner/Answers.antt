@@ -1,4 +1,4 @@
--- `clear_inner` meets its contract: what is left of the column ends as the whole would, and a cursor in each column beside serves an agent that stands there.
+-- `clear_inner` meets its contract.
 use Prim.Native.Nat.{ℕ}
 use mathlib.Core.Path.{sym, ap, subst, ◌∙◌, refl}
 use mathlib.Core.List.{List, map}

@@ -1,4 +1,4 @@
--- `clear_inner` meets its contract: what is left of the column ends as the whole would, and a cursor in each column beside serves an agent that stands there.
+-- The loop's invariant: what is left of the column ends as the whole would, and a cursor in each column beside serves an agent that stands there.
 use Prim.Native.Nat.{ℕ}
 use mathlib.Core.List.{List}
 use lib.ListN.{length, get_or}

@@ -1,4 +1,4 @@
--- `look` meets its contract: looking at what is left of the column ends as looking at the whole, so it may stop at a drop and at a span that is too high.
+-- `look` meets its contract.
 use native.Mathlib.Omega.{arith}
 use mathlib.Core.Path.{sym, ap, ◌∙◌}
 use mathlib.Core.List.{map}

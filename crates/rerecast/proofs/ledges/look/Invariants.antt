@@ -1,4 +1,4 @@
--- `look` meets its contract: looking at what is left of the column ends as looking at the whole, so it may stop at a drop and at a span that is too high.
+-- The loop's invariant: looking at what is left of the column ends as looking at the whole, so it may stop at a drop and at a span that is too high.
 use lib.ListN.{length}
 use mathlib.Core.Path.{◌≡◌}
 use mathlib.Core.Bool.{false}

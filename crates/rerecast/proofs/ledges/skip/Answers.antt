@@ -1,4 +1,4 @@
--- `skip` meets its contract: whatever slot the loop has come to is a cursor.
+-- `skip` meets its contract.
 use native.Mathlib.Omega.{arith}
 use Rattle.field.specs.Slots.{contents}
 use Rattle.field.proofs.Chains.{chain-slot, chain-cons, chain-less}

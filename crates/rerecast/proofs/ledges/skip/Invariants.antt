@@ -1,4 +1,4 @@
--- `skip` meets its contract: whatever slot the loop has come to is a cursor.
+-- The loop's invariant: whatever slot the loop has come to is a cursor.
 use Prim.Native.Nat.{ℕ}
 use mathlib.Core.List.{List}
 use lib.ListN.{length}

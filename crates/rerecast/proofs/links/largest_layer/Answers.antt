@@ -1,4 +1,4 @@
--- The loop's invariant: the largest layer that passes is the best so far, or is among those left. From a layer that is past on there is none.
+-- `largest_layer` meets its contract.
 use Prim.Native.Nat.{ℕ, ◌+◌, ◌-◌}
 use mathlib.Core.Path.{◌≡◌, sym, ap, ◌∙◌}
 use mathlib.Core.Bool.{Bool}

@@ -1,4 +1,4 @@
--- The loop's invariant: what is left of the columns ends as all of them would.
+-- `link_columns` meets its contract.
 use mathlib.Core.Path.{refl, ◌∙◌}
 use native.Mathlib.Numerals.{add-one}
 use native.Mathlib.Omega.{arith}

@@ -1,5 +1,4 @@
--- The loop's invariant: the open spaces left of the column end as all of them would, and what the cursors passed is behind whoever stands higher than those done.
--- Words change, and the heights in them stay, so the cells are still there.
+-- `link_spans` meets its contract.
 use Prim.Native.Nat.{◌+◌, max}
 use mathlib.Core.Path.{refl, sym, ap, ◌∙◌}
 use mathlib.Core.List.{[]}

@@ -1,5 +1,5 @@
--- The loop's invariant: the open spaces left of the column end as all of them would, and what the cursors passed is behind whoever stands higher than those done.
--- Words change, and the heights in them stay, so the cells are still there.
+-- The loop's invariant: the open spaces left of the column end as all of them would, and what the cursors passed is behind whoever stands higher than
+-- those done. Words change, and the heights in them stay, so the cells are still there.
 use Prim.Native.Nat.{ℕ, ◌≤◌, ◌<◌, ◌*◌, ◌+◌, ◌-◌}
 use mathlib.Core.Path.{◌≡◌}
 use mathlib.Core.List.{List, []}

@@ -1,4 +1,4 @@
--- `mesh_admission::all_named` meets its contract. The loop's invariant: each index passed names a vertex.
+-- `mesh_admission::all_named` meets its contract.
 use borrow.Author.Rules.{rules}
 use borrow.Author.Count.{below_more}
 use Prim.Native.Nat.{ℕ, ◌<◌}

@@ -1,4 +1,4 @@
--- `mesh_admission::all_named` meets its contract. The loop's invariant: each index passed names a vertex.
+-- The loop's invariant: each index passed names a vertex.
 use Prim.Native.Nat.{ℕ, ◌≤◌, ◌<◌, ◌-◌}
 use lib.ListN.{length, get_or}
 use Rattle.rerecast.proofs.mesh_admission.all_named.Given as goal

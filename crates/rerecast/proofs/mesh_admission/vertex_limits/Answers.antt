@@ -1,4 +1,4 @@
--- `mesh_admission::vertex_limits` meets its contract. The loop's invariant: what the numbers from i on say is what they all say.
+-- `mesh_admission::vertex_limits` meets its contract.
 use borrow.Author.Tests.{not-true, not-false}
 use mathlib.Core.Path.{refl, sym, ◌∙◌}
 use native.Mathlib.Omega.{arith}

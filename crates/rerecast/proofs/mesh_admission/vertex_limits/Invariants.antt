@@ -1,4 +1,4 @@
--- `mesh_admission::vertex_limits` meets its contract. The loop's invariant: what the numbers from i on say is what they all say.
+-- The loop's invariant: what the numbers from i on say is what they all say.
 use mathlib.Core.Path.{◌≡◌}
 use mathlib.Core.List.{map}
 use Prim.Native.Nat.{◌≤◌, ◌-◌}

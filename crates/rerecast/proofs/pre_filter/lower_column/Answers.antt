@@ -1,4 +1,4 @@
--- `lower_column` meets its contract: what is left of the column ends as the whole would.
+-- `lower_column` meets its contract.
 use native.Mathlib.Omega.{arith}
 use Rattle.field.specs.Slots.{contents}
 use Rattle.field.proofs.Upward.{roof-of, upward-slot, upward-next, upward-less, upward-step, upward-end}

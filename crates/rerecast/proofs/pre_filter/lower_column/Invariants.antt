@@ -1,4 +1,4 @@
--- `lower_column` meets its contract: what is left of the column ends as the whole would.
+-- The loop's invariant: what is left of the column ends as the whole would.
 use lib.ListN.{length}
 use Rattle.field.specs.Inner.{slots_from}
 use Rattle.field.specs.Filters.{roomed}

@@ -1,4 +1,4 @@
--- `raise_column` meets its contract: what is left of the column ends as the whole would, and the span below is at hand.
+-- `raise_column` meets its contract.
 use mathlib.Core.Path.{refl}
 use mathlib.Core.List.{[]}
 use lib.ListN.{get_or}

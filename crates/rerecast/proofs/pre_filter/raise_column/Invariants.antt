@@ -1,4 +1,4 @@
--- `raise_column` meets its contract: what is left of the column ends as the whole would, and the span below is at hand.
+-- The loop's invariant: what is left of the column ends as the whole would, and the span below is at hand.
 use Prim.Native.Nat.{ℕ}
 use mathlib.Core.List.{List}
 use lib.ListN.{length}

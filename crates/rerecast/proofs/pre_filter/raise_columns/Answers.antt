@@ -1,4 +1,4 @@
--- `raise_columns` meets its contract: after each column, what is left of them ends as the whole would.
+-- `raise_columns` meets its contract.
 use mathlib.Core.Path.{refl, ◌∙◌}
 use native.Mathlib.Numerals.{add-one}
 use native.Mathlib.Omega.{arith}

@@ -1,4 +1,4 @@
--- `rasterize::triangles` meets its contract. The loop's invariant: the triangles from t on come on the store as it is now to what all of them come to.
+-- `rasterize::triangles` meets its contract.
 use mathlib.Core.Path.{◌∙◌}
 use Rattle.field.proofs.Meshing.{mesh-on, mesh-halts-says, mesh-halts-holds, mesh-ends-says, mesh-ends-holds}
 use Rattle.rerecast.proofs.rasterize.triangles.Goals as goal

@@ -1,4 +1,4 @@
--- `rasterize::triangles` meets its contract. The loop's invariant: the triangles from t on come on the store as it is now to what all of them come to.
+-- The loop's invariant: the triangles from t on come on the store as it is now to what all of them come to.
 use mathlib.Core.List.{List, ◌++◌}
 use Prim.Native.Nat.{ℕ, ◌-◌}
 use lib.ListN.{length}

@@ -1,5 +1,4 @@
--- `rasterize::columns` meets its contract. The loop's invariant: the columns from k on, of what is left of the part, come on the store as it is now to what all of
--- them come to. No more insertions were made than columns passed.
+-- `rasterize::columns` meets its contract.
 use mathlib.Core.Path.{◌≡◌, ap, ◌∙◌}
 use mathlib.Core.Bool.{Bool, not}
 use mathlib.Core.List.{List}

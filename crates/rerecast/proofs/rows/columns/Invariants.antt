@@ -1,5 +1,5 @@
--- `rasterize::columns` meets its contract. The loop's invariant: the columns from k on, of what is left of the part, come on the store as it is now to what all of
--- them come to. No more insertions were made than columns passed.
+-- The loop's invariant: the columns from k on, of what is left of the part, come on the store as it is now to what all of them come to. No more insertions
+-- were made than columns passed.
 use mathlib.Core.List.{List, ◌++◌}
 use Prim.Native.Nat.{ℕ, suc, ◌+◌, ◌-◌, ◌≤◌}
 use Rattle.clip.specs.declared.cut.Axis.TheVariants.{X}

@@ -1,5 +1,4 @@
--- `rasterize::rows` meets its contract. The loop's invariant: the rows from k on, of what is left of the triangle, come on the store as it is now to what all of them
--- come to. No more insertions were made than the rows passed have cells.
+-- `rasterize::rows` meets its contract.
 use mathlib.Core.Path.{◌≡◌, ap, ◌∙◌}
 use mathlib.Core.Bool.{Bool}
 use mathlib.Core.List.{List}

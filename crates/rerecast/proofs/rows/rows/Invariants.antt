@@ -1,5 +1,5 @@
--- `rasterize::rows` meets its contract. The loop's invariant: the rows from k on, of what is left of the triangle, come on the store as it is now to what all of them
--- come to. No more insertions were made than the rows passed have cells.
+-- The loop's invariant: the rows from k on, of what is left of the triangle, come on the store as it is now to what all of them come to. No more
+-- insertions were made than the rows passed have cells.
 use mathlib.Core.List.{List, ◌++◌}
 use Prim.Native.Nat.{ℕ, suc, ◌*◌, ◌-◌, ◌≤◌}
 use Rattle.clip.specs.declared.cut.Axis.TheVariants.{Z}

@@ -1,4 +1,4 @@
--- `chain_slots` meets its contract. The loop's invariant: each of the first slots has the one after it next.
+-- `chain_slots` meets its contract.
 use mathlib.Core.Path.{refl}
 use native.Mathlib.Omega.{arith}
 use Rattle.field.proofs.Emptying.{numbering-turn, numbering-end}

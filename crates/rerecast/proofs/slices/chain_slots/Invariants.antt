@@ -1,4 +1,4 @@
--- `chain_slots` meets its contract. The loop's invariant: each of the first slots has the one after it next.
+-- The loop's invariant: each of the first slots has the one after it next.
 use Prim.Native.Nat.{◌-◌}
 use Rattle.field.proofs.Emptying.{Numbering}
 use Rattle.rerecast.proofs.slices.chain_slots.Given as goal

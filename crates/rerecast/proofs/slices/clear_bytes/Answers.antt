@@ -1,4 +1,4 @@
--- `clear_bytes` meets its contract. The loop's invariant: the first bytes are set, and the others as they were.
+-- `clear_bytes` meets its contract.
 use native.Mathlib.Omega.{arith}
 use Rattle.field.proofs.Emptying.{filling-start, filling-turn, filling-end}
 use Rattle.rerecast.proofs.slices.clear_bytes.Goals as goal

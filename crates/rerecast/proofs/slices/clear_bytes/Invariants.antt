@@ -1,4 +1,4 @@
--- `clear_bytes` meets its contract. The loop's invariant: the first bytes are set, and the others as they were.
+-- The loop's invariant: the first bytes are set, and the others as they were.
 use Prim.Native.Nat.{◌-◌}
 use lib.ListN.{length}
 use Rattle.field.proofs.Emptying.{Filling}

@@ -1,4 +1,4 @@
--- `clear_heads` meets its contract. The loop's invariant: the first heads are set, and the others as they were.
+-- `clear_heads` meets its contract.
 use native.Mathlib.Omega.{arith}
 use Rattle.field.specs.Slots.{none}
 use Rattle.field.proofs.Emptying.{filling-start, filling-turn, filling-end}

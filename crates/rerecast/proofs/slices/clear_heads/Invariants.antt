@@ -1,4 +1,4 @@
--- `clear_heads` meets its contract. The loop's invariant: the first heads are set, and the others as they were.
+-- The loop's invariant: the first heads are set, and the others as they were.
 use Prim.Native.Nat.{◌-◌}
 use lib.ListN.{length}
 use Rattle.field.specs.Slots.{none}

@@ -1,4 +1,4 @@
--- `clear_heights` meets its contract. The loop's invariant: the first heights are set, and the others as they were.
+-- `clear_heights` meets its contract.
 use native.Mathlib.Omega.{arith}
 use Rattle.field.proofs.Emptying.{filling-start, filling-turn, filling-end}
 use Rattle.rerecast.proofs.slices.clear_heights.Goals as goal

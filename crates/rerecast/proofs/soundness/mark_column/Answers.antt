@@ -1,5 +1,4 @@
--- `mark_column` meets its contract. The loop's invariant: what is left of the chain is one of unmarked slots whose spans ascend exactly if the whole is.
--- The measure is how many slots are not marked.
+-- `mark_column` meets its contract.
 use Rattle.field.proofs.Marking.{marking-less, marking-out, marking-twice, marking-low, marking-thin, marking-climb, marking-end}
 use Rattle.rerecast.proofs.soundness.mark_column.Goals as goal
 

@@ -1,5 +1,5 @@
--- `mark_column` meets its contract. The loop's invariant: what is left of the chain is one of unmarked slots whose spans ascend exactly if the whole is.
--- The measure is how many slots are not marked.
+-- The loop's invariant: what is left of the chain is one of unmarked slots whose spans ascend exactly if the whole is. The measure is how many slots are
+-- not marked.
 use mathlib.Core.Path.{◌≡◌}
 use lib.ListN.{length}
 use Rattle.field.specs.Marks.{unmarked, Climbs}

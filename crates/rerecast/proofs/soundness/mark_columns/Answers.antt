@@ -1,4 +1,4 @@
--- `mark_columns` meets its contract. The loop's invariant: the first columns are marked.
+-- `mark_columns` meets its contract.
 use mathlib.Core.Path.{refl, ◌∙◌}
 use Rattle.field.proofs.Surveying.{surveyed-start, surveyed-broken, surveyed-step}
 use Rattle.rerecast.proofs.Told.{marked, broken}

@@ -1,4 +1,4 @@
--- `mark_columns` meets its contract. The loop's invariant: the first columns are marked.
+-- The loop's invariant: the first columns are marked.
 use Prim.Native.Nat.{◌-◌}
 use mathlib.Core.Path.{◌≡◌}
 use lib.ListN.{length}

@@ -1,5 +1,4 @@
--- `mark_free` meets its contract. The loop's invariant: what is left of the chain is one of unmarked slots exactly if the whole is. The measure is how many
--- slots are not marked.
+-- `mark_free` meets its contract.
 use mathlib.Core.Path.{◌∙◌}
 use native.Mathlib.Omega.{arith}
 use Rattle.field.specs.Marks.{Any}

@@ -1,5 +1,4 @@
--- `mark_free` meets its contract. The loop's invariant: what is left of the chain is one of unmarked slots exactly if the whole is. The measure is how many
--- slots are not marked.
+-- The loop's invariant: what is left of the chain is one of unmarked slots exactly if the whole is. The measure is how many slots are not marked.
 use Rattle.field.specs.Marks.{unmarked, Any}
 use Rattle.field.proofs.Marking.{Marking}
 use Rattle.rerecast.proofs.soundness.mark_free.Given as goal

@@ -1,4 +1,4 @@
--- `mark_run` meets its contract. The loop's invariant: the slots before `i` are marked in turn. The measure is what is left of the slots.
+-- `mark_run` meets its contract.
 use native.Mathlib.Omega.{arith}
 use Rattle.field.specs.Marks.{InTurn}
 use Rattle.field.proofs.Marking.{turn-size}

@@ -1,4 +1,4 @@
--- `mark_run` meets its contract. The loop's invariant: the slots before `i` are marked in turn. The measure is what is left of the slots.
+-- The loop's invariant: the slots before `i` are marked in turn. The measure is what is left of the slots.
 use Prim.Native.Nat.{◌-◌}
 use lib.ListN.{length}
 use Rattle.field.specs.Marks.{InTurn}
