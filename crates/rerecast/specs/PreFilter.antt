@@ -1,18 +1,24 @@
 -- What the inner functions of the filters take and answer, as the definitions have it. No public contract cites this file.
-use Rattle.std.specs.Prelude.{◌≢◌, List, [], ◌∷◌, ℕ, ◌≤◌, get_or}
+use Rattle.std.specs.Prelude.{◌≡◌, ◌≢◌, true, false, Option, Some, None, List, [], ◌∷◌, ℕ, ◌≤◌, get_or}
 use Rattle.field.specs.Slots.{none}
 use Rattle.field.specs.Ledges.{Stand}
 use Rattle.field.specs.LedgeTest.{View, view}
 use Rattle.field.specs.FilterCode.{roof_at}
 use Rattle.rerecast.specs.declared.ledges.Stand as code-stand
-use Rattle.rerecast.specs.declared.ledges.View as code_view
+use Rattle.rerecast.specs.declared.ledges.Reach.{Reach}
 use Rattle.rerecast.specs.declared.ledges.Sides.{Sides}
 
 abbrev pub stand_of : code-stand.Stand → Stand
 stand_of s = record { top = s.top; roof = s.roof; height = s.height; climb = s.climb }
 
-abbrev pub view_of : code_view.View → View
-view_of v = view v.drop v.low v.high
+-- no drop was seen, but these ceilings
+abbrev pub reach_of : Reach → View
+reach_of r = view false r.low r.high
+
+-- a look comes to this view: nothing is left of it once a drop is seen
+abbrev pub Sees : Option Reach → View → Type 0
+Sees (Some r) v = reach_of r ≡ v
+Sees None v = v.drop ≡ true
 
 -- the cursors in the order of the directions
 abbrev pub sides_of : Sides → List ℕ
