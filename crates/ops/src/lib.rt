@@ -47,7 +47,7 @@ fn rounded<const ABOVE_AWAY: bool, const BELOW_AWAY: bool>(x: f32) -> i32
     }
     if x <= -1.0 {
         if x > -2147483648.0 {
-            return 0 - whole::<BELOW_AWAY>(-x);
+            return -whole::<BELOW_AWAY>(-x);
         }
         return i32::MIN;
     }
