@@ -167,7 +167,7 @@ fn bind(compact: &Compact<'_>, sides: &[Side; 4], cursors: [u8; 4], q: Post) -> 
     let c = link_to(compact, sides[2], cursors[2], q);
     let d = link_to(compact, sides[3], cursors[3], q);
     Bound {
-        word: CompactSpan::with_links(q.height, a.layer, b.layer, c.layer, d.layer),
+        word: CompactSpan::with_links(q.height, [a.layer, b.layer, c.layer, d.layer]),
         missed: a.missed.max(b.missed).max(c.missed).max(d.missed),
         cursors: [a.from, b.from, c.from, d.from],
     }
