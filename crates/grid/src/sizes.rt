@@ -3,7 +3,7 @@ ghost use Rattle.std.specs.Prelude.{◌*◌, ◌≤◌};
 
 use crate::directions::Direction;
 
-// The numbers of columns fit an index, since there are few.
+// Of a grid that is accepted: there are at most 1,048,576 columns.
 #[derive(Clone, Copy, Debug)]
 pub struct Size {
     pub width: u32,
@@ -36,7 +36,7 @@ impl Size {
 
     // The place beside x, z in a direction, if the step does not leave the grid.
     pub fn beside(self, x: u32, z: u32, direction: Direction) -> Option<(u32, u32)>
-        ensures step { StepsTo result self.width self.height (number_of direction) x z }
+        ensures { StepsTo result self.width self.height (number_of direction) x z }
     {
         match direction {
             Direction::West => Some((x.checked_sub(1)?, z)),
