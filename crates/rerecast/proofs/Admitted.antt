@@ -12,14 +12,17 @@ use Rattle.grid.specs.Grid.{width, height, columns, grid_says}
 use Rattle.grid.specs.Answer as grids
 use Rattle.grid.proofs.Accepted.{accepted, fine}
 use Rattle.field.specs.declared.Span.{Span}
-use Rattle.field.specs.Slots.{Slots}
+use Rattle.field.specs.Slots.{Slots, slots}
 use Rattle.field.specs.Field.{Held}
 use Rattle.field.specs.Store.{Store, store, Fits, Fitting, left}
 use Rattle.field.specs.Calls.{Made, made, IsFresh, Freshened, Offers, Added}
 use Rattle.field.proofs.Admitting.{admits-past, admits-swap, admits-refused}
 use Rattle.rerecast.specs.Answer.{refusal_says}
 use Rattle.rerecast.specs.declared.Refusal.{Refusal}
+use Rattle.rerecast.specs.declared.lent.Slots as lent
+use Rattle.rerecast.specs.Lent.{slots_of}
 use Rattle.rerecast.specs.Inner.{Fitted, Passed, AdmitsStore, AdmitsCall}
+use Rattle.rerecast.proofs.GivenBack.{GivenBack, given-back}
 
 -- past the grid's tests
 module _ (g : Grid) (size : Size) (says : grids.said_of (Ok size) ≡ grid_says g) where
@@ -34,8 +37,10 @@ module _ (g : Grid) (size : Size) (says : grids.said_of (Ok size) ≡ grid_says 
   store-refused q shortest s marks' A = let k = its-size in inr (k.0, rw (k.1.0, k.1.1) at A)
 
   -- a fresh field
-  pub freshened : (heads : List ℕ) (t : Slots) (o : Made) → Asks (Fits (size.width * size.height) heads t) (made (just 4) heads t) (IsFresh (size.width * size.height) heads t) o → Freshened g heads t o
-  freshened heads t o A = let k = its-size in inr (k.0, rw (k.1.0, k.1.1) at A)
+  pub freshened : (heads : List ℕ) (t : Slots) (said : Said) (heads' : List ℕ) (t' : lent.Slots) {free : ℕ} {fl ce ar nx : List ℕ} → GivenBack t' free fl ce ar nx
+      → Asks (Fits (size.width * size.height) heads t) (made (just 4) heads t) (IsFresh (size.width * size.height) heads t) (made said heads' (slots_of t'))
+      → Freshened g heads t (made said heads' (slots free fl ce ar nx))
+  freshened heads t said heads' t' back A = let k = its-size in rw (given-back t' back) (inr (k.0, rw (k.1.0, k.1.1) at A))
 
 -- what a call may rely on past all of them
 pub call-ready : (g : Grid) (size : Size) (shortest : ℕ) (s : Store) (marks' : List ℕ) → AdmitsCall (Ok size) g shortest s marks' → (size.width * size.height ≤ length s.heads) × Held (take (size.width * size.height) s.heads) s.slots
@@ -49,7 +54,10 @@ added-refused q g x z new th s marks' A =
     (admits-refused left g (Fitted (columns g) (length s.heads) s) s (Offers (width g) (height g) x z new th s) (refusal_says q) s' A)
 
 -- one span: past all tests
-pub added-offered : (g : Grid) (size : Size) (x z : ℕ) (new : Span) (th shortest : ℕ) (s : Store) (marks' heads' : List ℕ) (t' : Slots) (said : Said) → AdmitsCall (Ok size) g shortest s marks' → ((marks : List ℕ) → Offers size.width size.height x z new th (store s.heads s.slots marks) (left said (store heads' t' (replicate (length s.slots.nexts) 0)))) → Added g x z new th s (left said (store heads' t' marks'))
-added-offered g size x z new th shortest s marks' heads' t' said A O =
-    admits-past left g s (Offers (width g) (height g) x z new th s) (left said (store heads' t' marks')) A.0 A.1.1.fits.0 A.1.1.sound
-    (rw (A.1.1.zeros, ← A.1.0.0, ← A.1.0.1) (O s.marks))
+pub added-offered : (g : Grid) (size : Size) (x z : ℕ) (new : Span) (th shortest : ℕ) (s : Store) (marks' heads' : List ℕ) (t' : lent.Slots) (said : Said) {free : ℕ} {fl ce ar nx : List ℕ}
+    → GivenBack t' free fl ce ar nx → AdmitsCall (Ok size) g shortest s marks'
+    → ((marks : List ℕ) → Offers size.width size.height x z new th (store s.heads s.slots marks) (left said (store heads' (slots_of t') (replicate (length s.slots.nexts) 0))))
+    → Added g x z new th s (left said (store heads' (slots free fl ce ar nx) marks'))
+added-offered g size x z new th shortest s marks' heads' t' said back A O =
+    admits-past left g s (Offers (width g) (height g) x z new th s) (left said (store heads' _ marks')) A.0 A.1.1.fits.0 A.1.1.sound
+    (rw (given-back t' back, A.1.1.zeros, ← A.1.0.0, ← A.1.0.1) (O s.marks))
