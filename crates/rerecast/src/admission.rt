@@ -8,7 +8,7 @@ ghost use Rattle.rerecast.specs.Inner.{Sizes, AdmitsStore, AdmitsCall};
 use crate::Reply;
 use crate::slices::index;
 use crate::soundness::is_sound;
-use grid::{Grid, GridReply};
+use grid::{Grid, GridError};
 
 // What the tests find.
 #[derive(Clone, Copy)]
@@ -22,12 +22,24 @@ pub(crate) enum Admission {
 pub(crate) fn size_of(grid: Grid) -> Admission
     ensures { Sizes result grid }
 {
-    let answer = grid::check(grid);
-    match answer {
-        GridReply::Fine(width, height) => Admission::Granted(width, height),
-        GridReply::BadNumber(x) => Admission::Refused(Reply::BadNumber(x)),
-        GridReply::BoxOrder => Admission::Refused(Reply::BoxOrder),
-        GridReply::GridSize(width, height) => Admission::Refused(Reply::GridSize(width, height)),
+    match grid::check(grid) {
+        Ok(size) => Admission::Granted(size.width, size.height),
+        Err(e) => Admission::Refused(Reply::from(e)),
+    }
+}
+
+impl From<GridError> for Reply {
+    ghost use Rattle.grid.specs.Answer.{said_of_error};
+    ghost use Rattle.rerecast.specs.Answer.{said_of};
+
+    ghost from_gives = { λ e r. said_of r ≡ said_of_error e };
+
+    fn from(e: GridError) -> Self {
+        match e {
+            GridError::BadNumber(x) => Reply::BadNumber(x),
+            GridError::BoxOrder => Reply::BoxOrder,
+            GridError::GridSize(width, height) => Reply::GridSize(width, height),
+        }
     }
 }
 
