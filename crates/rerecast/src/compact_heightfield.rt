@@ -103,7 +103,7 @@ fn place(
     data[k] = s.data;
     span_areas[k] = span.area;
     // no column is crowded by now, so the count has room
-    compact_cell::raise_at(cell_indices, cell_counts, column);
+    compact_cell::raise_at(cell_indices, cell_counts, column).unwrap();
     k + 1
 }
 

@@ -204,7 +204,7 @@ fn bind(ys: &[u16], data: &[u32], r: Around, t: Cursors, q: Post) -> Bound
     let b = link_to(ys, data, r.side1, t.from1, q);
     let c = link_to(ys, data, r.side2, t.from2, q);
     let d = link_to(ys, data, r.side3, t.from3, q);
-    let word = CompactSpan::with_links(q.height, a.layer, b.layer, c.layer, d.layer);
+    let word = CompactSpan::with_links(q.height, [a.layer, b.layer, c.layer, d.layer]);
     let missed = greater_layer(
         greater_layer(greater_layer(a.missed, b.missed), c.missed),
         d.missed,
