@@ -261,16 +261,17 @@ fn clear_inner(
 }
 
 // The filter on a column at the rim, where every span is at a ledge.
-fn clear_all(nexts: &[u32], areas: &mut [u8], head: u32)
-    requires even { length areas.old ≡ length nexts.now }
-    requires is_chain { (ss : List ℕ) × (Chain nexts.now head ss × Distinct ss) }
-    ensures { (floors ceilings ss : List ℕ) → Chain nexts.now head ss → areas.new ≡ assign areas.old ss (ruled (λ below s above. 0) [] (map (span_at (contents floors ceilings areas.old)) ss)) }
+fn clear_all(columns: &Columns<'_>, areas: &mut [u8], head: u32)
+    requires even { length areas.old ≡ length columns.now.nexts.now }
+    requires is_chain { (ss : List ℕ) × (Chain columns.now.nexts.now head ss × Distinct ss) }
+    ensures { (ss : List ℕ) → Chain columns.now.nexts.now head ss
+        → areas.new ≡ assign areas.old ss (ruled (λ below s above. 0) [] (map (span_at (contents_in columns.now areas.old)) ss)) }
 {
     let mut at = head;
     while at != NONE {
         let i = at as usize;
         areas[i] = 0;
-        at = nexts[i];
+        at = columns.nexts[i];
     }
 }
 
@@ -299,7 +300,7 @@ fn clear_column(
         return;
     }
     if on_rim(size, c) {
-        clear_all(columns.nexts, areas, head);
+        clear_all(columns, areas, head);
     } else {
         clear_inner(columns, areas, size.width as usize, column, height, climb);
     }
