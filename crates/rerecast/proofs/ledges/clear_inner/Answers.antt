@@ -43,7 +43,7 @@ loop-at-init c =
     let p = c.requires.inside in
     rw c.sides_of-sides.ensures (
       λ areas₀ f H. ledging-start H a.width a.column a.height a.climb (omega arith) p.2 p.3 (omega arith) a.areas.now,
-      chain-reached (column_at c.requires.held.1.0 a.column) (column-chain H a.column (omega arith)),
+      chain-reached (column_at c.requires.held.1.0 a.column) (column-chain c.requires.held.1.1 a.column (omega arith)),
     )
 
 pub judge-judged-requires-clause-are_cursors : goal.judge-judged-requires-clause-are_cursors

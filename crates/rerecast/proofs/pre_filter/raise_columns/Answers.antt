@@ -3,11 +3,8 @@ use native.Mathlib.Numerals.{add-one}
 use native.Mathlib.Omega.{arith}
 use Rattle.field.specs.Field.{column_at}
 use Rattle.field.proofs.Holding.{column-chain, column-distinct}
-use Rattle.field.proofs.Sweeping.{sweep-begin, sweep-step, sweep-end}
+use Rattle.field.proofs.Sweeping.{sweep-step}
 use Rattle.rerecast.proofs.pre_filter.raise_columns.Goals as goal
-
-pub loop-head-init : goal.loop-head-init
-loop-head-init c f H = sweep-begin H _
 
 pub raise_column-requires-clause-is_chain : goal.raise_column-requires-clause-is_chain
 raise_column-requires-clause-is_chain c =
@@ -16,6 +13,3 @@ raise_column-requires-clause-is_chain c =
 
 pub loop-head-preserved : goal.loop-head-preserved
 loop-head-preserved c f H = rw add-one (sweep-step H _ _ (omega arith) (c.loop-head.invariant f H) c.raise_column.ensures)
-
-pub returns : goal.returns
-returns c f H = sweep-end H _ (omega arith) (c.loop-head.invariant f H)
