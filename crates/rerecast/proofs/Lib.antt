@@ -1,4 +1,4 @@
-pub mod Told
+pub mod GivenBack
 pub mod Admitted
 pub mod Answers
 pub mod Compacting
