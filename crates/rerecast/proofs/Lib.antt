@@ -1,11 +1,4 @@
-pub mod Told
-pub mod Admitted
-pub mod Answers
 pub mod Compacting
 pub mod Around
 pub mod LinkCursors
 pub mod CompactCall
-pub mod Filtered
-pub mod Rasterizing
-pub mod MeshAdmitted
-pub mod Columns
