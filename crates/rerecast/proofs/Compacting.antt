@@ -5,15 +5,19 @@ use mathlib.Core.List.{List, [], ◌∷◌, map, foldl}
 use Prim.Native.Nat.{ℕ, ◌+◌, ◌<◌, ◌≤◌, max}
 use native.Mathlib.Omega.{arith}
 use lib.ListN.{length, get_or}
+use lib.Seq.{length-sets}
 use Rattle.compact_span.specs.Word.{word, held}
 use Rattle.compact_span.proofs.Base64.{word_held}
 use Rattle.field.specs.Open.{Open, space}
 use Rattle.field.specs.Links.{passes, link, missed, word_of, missed_of}
+use Rattle.field.specs.Compact.{Result}
 use Rattle.field.specs.Rowing.{shown}
 use Rattle.field.proofs.Sides.{link-small}
 use Rattle.rerecast.specs.declared.sides.Side.{Side}
 use Rattle.rerecast.specs.declared.links.Found.{Found}
-use Rattle.rerecast.specs.Compacting.{layers_of, Left, AllLeft}
+use Rattle.rerecast.specs.declared.lent.Compact.{Compact}
+use Rattle.rerecast.specs.Lent.{SameCompact}
+use Rattle.rerecast.specs.Compacting.{layers_of, linked, Left, AllLeft}
 
 -- the words that `with_links` makes are the rule's: a link fits six bits
 pub bound-word : (pass : Open → Bool) (h : ℕ) (na nb nc nd : List Open) {a b c d w : ℕ} → a ≡ link pass na → b ≡ link pass nb → c ≡ link pass nc → d ≡ link pass nd → w ≡ word h (held a ∷ held b ∷ held c ∷ held d ∷ []) → w ≡ word h (map (link pass) (na ∷ nb ∷ nc ∷ nd ∷ []))
@@ -65,3 +69,27 @@ module _ (tall climb y height : ℕ) (ys ws : List ℕ) (a b c d : Found) {w m :
   bound (s0 ∷ s1 ∷ []) e A B C D ew em = absurd (omega (arith, e))
   bound (s0 ∷ s1 ∷ s2 ∷ []) e A B C D ew em = absurd (omega (arith, e))
   bound (s0 ∷ s1 ∷ s2 ∷ s3 ∷ s4 ∷ ss) e A B C D ew em = absurd (omega (arith, e))
+
+-- ---- a result of which only words change
+
+pub record OnlyWords (t t' : Result) : Type 0 where
+  pub indices : t'.indices ≡ t.indices
+  pub counts : t'.counts ≡ t.counts
+  pub ys : t'.rows.ys ≡ t.rows.ys
+  pub areas : t'.rows.areas ≡ t.rows.areas
+  pub words : length t'.rows.words ≡ length t.rows.words
+
+pub only-linked : (t v t' : Result) (k : ℕ) (ws : List ℕ) → OnlyWords t v → t' ≡ linked v k ws → OnlyWords t t'
+only-linked t v t' k ws o e =
+    record {
+      indices = ap (λ (r : Result). r.indices) e ∙ o.indices;
+      counts = ap (λ (r : Result). r.counts) e ∙ o.counts;
+      ys = ap (λ (r : Result). r.rows.ys) e ∙ o.ys;
+      areas = ap (λ (r : Result). r.rows.areas) e ∙ o.areas;
+      words = ap (λ (r : Result). length r.rows.words) e ∙ length-sets v.rows.words k ws ∙ o.words;
+    }
+
+-- ---- the same slices are lent on
+
+pub same-compact : (a b c : Compact) → SameCompact a b → SameCompact b c → SameCompact a c
+same-compact a b c p q = (q.0 ∙ p.0, q.1 ∙ p.1, q.2 ∙ p.2, q.3 ∙ p.3, q.4 ∙ p.4)
