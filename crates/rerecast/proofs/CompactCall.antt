@@ -1,4 +1,4 @@
--- The ends of `into_compact`: what the answers of its inner functions tell, and the outcome that each makes.
+-- The ends of `into_compact`, and the outcome that each makes.
 use mathlib.Core.Path.{◌≡◌, refl, ap, subst, ◌∙◌}
 use mathlib.Core.Logic.{inl, inr}
 use mathlib.Core.List.{List, flatten}
@@ -16,20 +16,10 @@ use Rattle.field.specs.Links.{passes, largest_missed}
 use Rattle.field.specs.Compact.{Result, Suiting, Room, Few, complete, outcome, keeping, raised_top, complete_says, Compacts, Compacted}
 use Rattle.field.proofs.Admitting.{admits-past, admits-swap, admits-refused}
 use Rattle.rerecast.specs.Answer.{refusal_says}
-use Rattle.std.specs.Prelude.{Option, Some, None, Result as StdResult, Ok, Err}
+use Rattle.std.specs.Prelude.{Ok, Err}
 use Rattle.grid.specs.declared.sizes.Size.{Size}
 use Rattle.rerecast.specs.declared.Refusal.{Refusal}
 use Rattle.rerecast.specs.Inner.{Fitted, AdmitsCall}
-use Rattle.rerecast.specs.Compacting.{Tallies}
-
--- ---- the tally
-
-module _ (r : Option ℕ) (cs : List (List Open)) (T : Tallies r cs) where
-  pub total-told : {n : ℕ} → r ≡ Some n → Few cs × (n ≡ length (flatten cs))
-  total-told e = subst (λ (t : Option ℕ). Tallies t cs) e T
-
-  pub crowded-told : r ≡ None → Few cs → ⊥
-  crowded-told e = subst (λ (t : Option ℕ). Tallies t cs) e T
 
 -- ---- the outcomes, of one field
 
@@ -64,7 +54,7 @@ module _ (g : Grid) (tall climb shortest : ℕ) (s : Store) (marks' : List ℕ) 
       (admits-refused (keeping t) g (Fitted (columns g) shortest s) s next (refusal_says q) s' A)
 
   -- past all tests
-  module _ {size : Size} (A : AdmitsCall (Ok size) g shortest s marks') where
+  module _ (size : Size) (A : AdmitsCall (Ok size) g shortest s marks') where
     pub field-ready : ((size.width * size.height ≤ length t.indices) × (size.width * size.height ≤ length t.counts))
     field-ready = rw (A.1.0.0, A.1.0.1) (omega (arith, A.1.1.fits.1), omega (arith, A.1.1.fits.1))
 
