@@ -1,3 +1,8 @@
+pub mod GivenBack
+pub mod Admitted
+pub mod MeshAdmitted
+pub mod Rasterizing
+pub mod Answers
 pub mod Compacting
 pub mod Around
 pub mod LinkCursors

@@ -1,20 +1,15 @@
 -- What the answers of a mesh's tests mean. No public contract cites this file.
-use Rattle.std.specs.Prelude.{◌≡◌, List, map, ℕ, length, replicate, Float, Option, Some, None, Result, Ok, Err}
+use Rattle.std.specs.Prelude.{◌≡◌, List, ℕ, length, replicate, Result, Ok, Err}
 use Rattle.replies.specs.Said.{Said, real, say, just, Asks}
 use Rattle.grid.specs.declared.Grid.{Grid}
 use Rattle.grid.specs.declared.sizes.Size.{Size}
-use Rattle.grid.specs.Grid.{width, height, columns, grid_says, coordinate}
-use Rattle.grid.specs.Answer.{Finds}
+use Rattle.grid.specs.Grid.{width, height, columns, grid_says}
 use Rattle.field.specs.Field.{Field}
 use Rattle.field.specs.Store.{Store, store, Fitting, Sound, left}
 use Rattle.field.specs.Carrying.{Meshed}
 use Rattle.field.specs.Meshes.{Mesh, Shaped, Named, vertices_say, Given}
 use Rattle.rerecast.specs.Answer.{refusal_says}
 use Rattle.rerecast.specs.declared.Refusal.{Refusal}
-
--- the first of the vertex numbers that is outside its limits
-abbrev pub FirstOutside : List Float → Option Float → Type 0
-FirstOutside vertices found = Finds found (map coordinate vertices)
 
 -- 10 and 1 are passed, or one of them is given
 abbrev pub AdmitsNumbers : Result Unit Refusal → Mesh → Type 0

@@ -1,9 +1,10 @@
 // The tests in front of a call that takes a mesh: those of every call, with the mesh's shape among them, and then its indices and vertex numbers.
-ghost use Rattle.std.specs.Prelude.{◌≡◌, [], ℕ, ◌<◌, length, get_or};
+ghost use Rattle.std.specs.Prelude.{◌≡◌, ℕ, ◌<◌, length, get_or, not, find};
+ghost use Rattle.grid.specs.Grid.{coordinate_ok};
 ghost use Rattle.field.specs.Store.{store};
 ghost use Rattle.field.specs.Inner.{Says};
 ghost use Rattle.field.specs.Meshes.{Shaped};
-ghost use Rattle.rerecast.specs.MeshAdmission.{FirstOutside, AdmitsNumbers, AdmitsMesh};
+ghost use Rattle.rerecast.specs.MeshAdmission.{AdmitsNumbers, AdmitsMesh};
 ghost use Rattle.rerecast.specs.Lent.{slots_in, mesh_of};
 
 use crate::Refusal;
@@ -28,7 +29,7 @@ fn all_named(indices: &[u32], count: usize) -> bool
 
 // The first vertex number that is outside its limits, as they lie, used or not.
 fn first_outside(vertices: &[f32]) -> Option<f32>
-    ensures { FirstOutside vertices.now result }
+    ensures { result ≡ find (λ x. not (coordinate_ok x)) vertices.now }
 {
     vertices.iter().copied().find(|x| !grid::coordinate(*x))
 }
