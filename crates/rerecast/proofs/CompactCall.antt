@@ -13,13 +13,16 @@ use Rattle.field.specs.Field.{Field, Holds}
 use Rattle.field.specs.Store.{Store, store, cleared}
 use Rattle.field.specs.Open.{Open, columns_of, cells}
 use Rattle.field.specs.Links.{passes, largest_missed}
-use Rattle.field.specs.Compact.{Result, Suiting, Room, Few, complete, outcome, keeping, raised_top, complete_says, Compacts, Compacted}
+use Rattle.field.specs.Compact.{Result, result_of, rows, Suiting, Room, Few, complete, outcome, keeping, raised_top, complete_says, Compacts, Compacted}
 use Rattle.field.proofs.Admitting.{admits-past, admits-swap, admits-refused}
 use Rattle.rerecast.specs.Answer.{refusal_says}
 use Rattle.std.specs.Prelude.{Ok, Err}
 use Rattle.grid.specs.declared.sizes.Size.{Size}
 use Rattle.rerecast.specs.declared.Refusal.{Refusal}
+use Rattle.rerecast.specs.declared.lent.Compact.{Compact}
+use Rattle.rerecast.specs.Lent.{compact_of}
 use Rattle.rerecast.specs.Inner.{Fitted, AdmitsCall}
+use Rattle.rerecast.proofs.GivenBack.{CompactBack, compact-back}
 
 -- ---- the outcomes, of one field
 
@@ -58,8 +61,12 @@ module _ (g : Grid) (tall climb shortest : ℕ) (s : Store) (marks' : List ℕ) 
     pub field-ready : ((size.width * size.height ≤ length t.indices) × (size.width * size.height ≤ length t.counts))
     field-ready = rw (A.1.0.0, A.1.0.1) (omega (arith, A.1.1.fits.1), omega (arith, A.1.1.fits.1))
 
-    pub compacted-field : {top : Float} {said : Said} {t' : Result} → top ≡ raised_top g tall → Compacts size.width size.height top tall climb s t (outcome said (cleared s) t') → Compacted g tall climb s t (outcome said (store s.heads s.slots marks') t')
-    compacted-field {top} {said} {t'} et C =
-        admits-past (keeping t) g s (Compacts (width g) (height g) (raised_top g tall) tall climb s t) (outcome said (store s.heads s.slots marks') t') A.0
-        (suits (columns g) _ _ shortest s t refl refl e A.1.1.fits) A.1.1.sound
-        (rw (A.1.1.zeros, ← A.1.0.0, ← A.1.0.1, ← et) C)
+    pub compacted-field : {top : Float} {said : Said} (t' : Compact) {ix sz ys ws ar : List ℕ} → CompactBack t' ix sz ys ws ar → top ≡ raised_top g tall
+        → Compacts size.width size.height top tall climb s t (outcome said (cleared s) (compact_of t'))
+        → Compacted g tall climb s t (outcome said (store s.heads s.slots marks') (result_of ix sz (rows ys ws ar)))
+    compacted-field {top} {said} t' back et C =
+        let next = Compacts (width g) (height g) (raised_top g tall) tall climb s t in
+        rw (compact-back t' back) (
+          admits-past (keeping t) g s next (outcome said (store s.heads s.slots marks') (compact_of t')) A.0
+          (suits (columns g) _ _ shortest s t refl refl e A.1.1.fits) A.1.1.sound (rw (A.1.1.zeros, ← A.1.0.0, ← A.1.0.1, ← et) C)
+        )
