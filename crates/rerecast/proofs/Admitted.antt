@@ -8,19 +8,19 @@ use Rattle.std.specs.Prelude.{Ok, Err}
 use Rattle.replies.specs.Said.{Said, just, Asks}
 use Rattle.grid.specs.declared.Grid.{Grid}
 use Rattle.grid.specs.declared.sizes.Size.{Size}
-use Rattle.grid.specs.Grid.{width, height, columns, grid_says}
+use Rattle.grid.specs.Grid.{width, height, grid_says}
 use Rattle.grid.specs.Answer as grids
-use Rattle.grid.proofs.Accepted.{accepted, fine}
+use Rattle.grid.proofs.Accepted.{fine}
 use Rattle.field.specs.declared.Span.{Span}
 use Rattle.field.specs.Slots.{Slots, slots}
 use Rattle.field.specs.Field.{Held}
-use Rattle.field.specs.Store.{Store, store, Fits, Fitting, left}
-use Rattle.field.specs.Calls.{Made, made, IsFresh, Freshened, Offers, Added}
+use Rattle.field.specs.Store.{Store, store, Fits, left}
+use Rattle.field.specs.Calls.{made, IsFresh, Freshened, Offers, Added}
 use Rattle.field.proofs.Admitting.{admits-past}
 use Rattle.rerecast.specs.declared.Refusal.{Refusal}
 use Rattle.rerecast.specs.declared.lent.Slots as lent
 use Rattle.rerecast.specs.Lent.{slots_of}
-use Rattle.rerecast.specs.Inner.{Fitted, Passed, AdmitsStore, AdmitsCall}
+use Rattle.rerecast.specs.Inner.{Passed, AdmitsStore, AdmitsCall}
 use Rattle.rerecast.proofs.GivenBack.{GivenBack, given-back}
 
 -- past the grid's tests
