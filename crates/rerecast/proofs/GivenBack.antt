@@ -1,5 +1,5 @@
 -- What a call leaves in slices that it passed on in a struct: each is what the struct holds of it at the end.
-use Rattle.std.proofs.Common.{◌≡◌, ℕ, List, refl}
+use Rattle.std.proofs.Common.{◌≡◌, ℕ, List}
 use Rattle.field.specs.Slots.{slots}
 use Rattle.field.specs.Compact.{result_of, rows}
 use Rattle.rerecast.specs.declared.lent.Slots.{Slots}

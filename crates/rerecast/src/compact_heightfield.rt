@@ -261,5 +261,13 @@ pub fn into_compact(
         areas: span_areas,
     };
     let top = raised_top(grid, walkable_height);
-    compact_field(&columns, areas, &mut compact, size, top, walkable_height, climb)
+    compact_field(
+        &columns,
+        areas,
+        &mut compact,
+        size,
+        top,
+        walkable_height,
+        climb,
+    )
 }
