@@ -1,5 +1,5 @@
 // How the runs print what a call answers and leaves.
-use compact_span::{CompactSpan, Con, Link};
+use compact_span::{CompactSpan, NoLink};
 use rerecast::Reply;
 use std::io;
 
@@ -38,13 +38,10 @@ pub(crate) fn say_byte(rt: &impl Print, b: u8) -> io::Result<()> {
 // The link of a word in a direction, in a field of six.
 pub(crate) fn say_link(rt: &impl Print, data: u32, dir: u8) -> io::Result<()> {
     let span = CompactSpan { y: 0, data };
-    let con = span.con(dir);
-    match con {
-        Con::Refused => say(rt, b"     ?"),
-        Con::Link(link) => match link {
-            Link::Empty => say(rt, b"     -"),
-            Link::To(layer) => say_byte(rt, layer),
-        },
+    match span.con(dir) {
+        Err(NoLink) => say(rt, b"     ?"),
+        Ok(None) => say(rt, b"     -"),
+        Ok(Some(layer)) => say_byte(rt, layer),
     }
 }
 

@@ -1,17 +1,17 @@
 // The filter for ledges on a sound field: which spans lie at a ledge, found column by column from the spans beside.
 ghost use Rattle.std.specs.Prelude.{◌≡◌, cond, List, [], map, ℕ, ◌+◌, ◌*◌, ◌≤◌, ◌<◌, length, get_or};
 ghost use Rattle.field.specs.declared.Span.{Span};
-ghost use Rattle.field.specs.Slots.{contents, span_at};
+ghost use Rattle.field.specs.Slots.{span_at};
 ghost use Rattle.field.specs.Field.{Field, spans, Holds, Held};
 ghost use Rattle.grid.specs.Grid.{width, height};
 ghost use Rattle.field.specs.Inner.{Chain, Distinct};
 ghost use Rattle.field.specs.Marks.{Climbs};
 ghost use Rattle.field.specs.Beside.{beside};
 ghost use Rattle.field.specs.LedgeTest.{view, seen, looked, looked_at, tells, ledge};
-ghost use Rattle.field.specs.FilterCode.{roof_at, around, greatest, hollow_of, Inside, Cursor, Cursors};
+ghost use Rattle.field.specs.FilterCode.{roof_at, around, greatest, hollow_of, Inside, Cursor};
 ghost use Rattle.field.specs.Filters.{ruled, assign, firm, ledges};
 ghost use Rattle.rerecast.specs.Lent.{slots_in, contents_in, EvenSlots};
-ghost use Rattle.rerecast.specs.PreFilter.{stand_of, Sees, reach_of, sides_of, Under, AllUnder};
+ghost use Rattle.rerecast.specs.PreFilter.{stand_of, Sees, reach_of, sides_of, Serve, AreCursors, Under, AllUnder, AllSlots};
 
 use crate::lent::Columns;
 use crate::places::{Cell, column_at, next_cell, on_rim};
@@ -76,7 +76,7 @@ fn see(st: Stand, ceiling: u16, floor: u16, reach: Reach) -> Option<Reach>
 fn look(columns: &Columns<'_>, s: u32, st: Stand, start: Reach) -> Option<Reach>
     requires even { EvenSlots columns.now }
     requires is_chain { (ss : List ℕ) × (Chain columns.now.nexts.now s ss × Climbs columns.now.floors.now columns.now.ceilings.now 0 ss) }
-    requires height_bound { (st.top + st.height ≤ st.roof) × Under columns.now.floors.now columns.now.nexts.now (st.top + st.height) s }
+    requires height_bound { (st.top + st.height ≤ st.roof) × Under columns.now (st.top + st.height) s }
     ensures { (areas ss : List ℕ) → Chain columns.now.nexts.now s ss
         → Sees result (looked (stand_of st) (reach_of start) (map (span_at (contents_in columns.now areas)) ss)) }
 {
@@ -100,9 +100,9 @@ fn look(columns: &Columns<'_>, s: u32, st: Stand, start: Reach) -> Option<Reach>
 fn skip(columns: &Columns<'_>, s: u32, need: u32) -> u32
     requires even { length columns.now.floors.now ≡ length columns.now.nexts.now }
     requires is_chain { (ss : List ℕ) × Chain columns.now.nexts.now s ss }
-    ensures keeps_cursor { (ceilings areas : List ℕ) (whole : List Span) → Cursor (contents columns.now.floors.now ceilings areas) columns.now.nexts.now need whole s
-        → Cursor (contents columns.now.floors.now ceilings areas) columns.now.nexts.now need whole result }
-    ensures under { Under columns.now.floors.now columns.now.nexts.now need result }
+    ensures keeps_cursor { (areas : List ℕ) (whole : List Span) → Cursor (contents_in columns.now areas) columns.now.nexts.now need whole s
+        → Cursor (contents_in columns.now areas) columns.now.nexts.now need whole result }
+    ensures under { Under columns.now need result }
 {
     let mut at = s;
     while at != NONE {
@@ -115,16 +115,15 @@ fn skip(columns: &Columns<'_>, s: u32, need: u32) -> u32
     at
 }
 
-// The slots beside, each moved up to the first under a floor of at least `need`.
-fn follow(columns: &Columns<'_>, sides: Sides, need: u32) -> Sides
+// The slots beside, each moved up to the first under a floor that is high enough for the agent.
+fn follow(columns: &Columns<'_>, sides: Sides, st: Stand) -> Sides
     requires even { length columns.now.floors.now ≡ length columns.now.nexts.now }
-    requires are_cursors { (ceilings : List ℕ) × (areas : List ℕ) × (at : ℕ → List Span) × (w : ℕ) × (i : ℕ)
-        × Cursors (contents columns.now.floors.now ceilings areas) columns.now.nexts.now need at (around w i) (sides_of sides) }
-    ensures keeps_cursors { (ceilings areas : List ℕ) (at : ℕ → List Span) (w i : ℕ)
-        → Cursors (contents columns.now.floors.now ceilings areas) columns.now.nexts.now need at (around w i) (sides_of sides)
-        → Cursors (contents columns.now.floors.now ceilings areas) columns.now.nexts.now need at (around w i) (sides_of result) }
-    ensures all_under { AllUnder columns.now.floors.now columns.now.nexts.now need result }
+    requires are_cursors { AreCursors columns.now (st.top + st.height) sides }
+    ensures keeps_cursors { (areas : List ℕ) (at : ℕ → List Span) (w i : ℕ)
+        → Serve columns.now areas (st.top + st.height) at w i sides → Serve columns.now areas (st.top + st.height) at w i result }
+    ensures all_under { AllUnder columns.now (st.top + st.height) result }
 {
+    let need = u32::from(st.top) + u32::from(st.height);
     Sides {
         west: skip(columns, sides.west, need),
         north: skip(columns, sides.north, need),
@@ -136,11 +135,10 @@ fn follow(columns: &Columns<'_>, sides: Sides, need: u32) -> Sides
 // What can be stepped to of the spans from the slots beside up, where none of them is a drop.
 fn look_around(columns: &Columns<'_>, sides: Sides, st: Stand) -> Option<Reach>
     requires even { EvenSlots columns.now }
-    requires are_cursors { (areas : List ℕ) × (at : ℕ → List Span) × (w : ℕ) × (i : ℕ)
-        × Cursors (contents_in columns.now areas) columns.now.nexts.now (st.top + st.height) at (around w i) (sides_of sides) }
-    requires height_bound { (st.top + st.height ≤ st.roof) × AllUnder columns.now.floors.now columns.now.nexts.now (st.top + st.height) sides }
+    requires are_cursors { AreCursors columns.now (st.top + st.height) sides }
+    requires height_bound { (st.top + st.height ≤ st.roof) × AllUnder columns.now (st.top + st.height) sides }
     ensures { (areas : List ℕ) (at : ℕ → List Span) (w i : ℕ)
-        → Cursors (contents_in columns.now areas) columns.now.nexts.now (st.top + st.height) at (around w i) (sides_of sides)
+        → Serve columns.now areas (st.top + st.height) at w i sides
         → Sees result (looked_at (stand_of st) at (around w i)) }
 {
     let start = Reach {
@@ -156,11 +154,10 @@ fn look_around(columns: &Columns<'_>, sides: Sides, st: Stand) -> Option<Reach>
 // Whether the spans from the slots beside up show a ledge.
 fn looks_steep(columns: &Columns<'_>, sides: Sides, st: Stand) -> bool
     requires even { EvenSlots columns.now }
-    requires are_cursors { (areas : List ℕ) × (at : ℕ → List Span) × (w : ℕ) × (i : ℕ)
-        × Cursors (contents_in columns.now areas) columns.now.nexts.now (st.top + st.height) at (around w i) (sides_of sides) }
-    requires height_bound { (st.top + st.height ≤ st.roof) × AllUnder columns.now.floors.now columns.now.nexts.now (st.top + st.height) sides }
+    requires are_cursors { AreCursors columns.now (st.top + st.height) sides }
+    requires height_bound { (st.top + st.height ≤ st.roof) × AllUnder columns.now (st.top + st.height) sides }
     ensures { (areas : List ℕ) (at : ℕ → List Span) (w i : ℕ)
-        → Cursors (contents_in columns.now areas) columns.now.nexts.now (st.top + st.height) at (around w i) (sides_of sides)
+        → Serve columns.now areas (st.top + st.height) at w i sides
         → result ≡ tells (stand_of st) (looked_at (stand_of st) at (around w i)) }
 {
     match look_around(columns, sides, st) {
@@ -172,24 +169,23 @@ fn looks_steep(columns: &Columns<'_>, sides: Sides, st: Stand) -> bool
 // A span's area afterwards, where `hollow` is the highest of the lowest floors beside.
 fn judge(columns: &Columns<'_>, sides: Sides, hollow: u16, st: Stand, area: u8) -> Judged
     requires even { EvenSlots columns.now }
-    requires are_cursors { (areas : List ℕ) × (at : ℕ → List Span) × (w : ℕ) × (i : ℕ)
-        × Cursors (contents_in columns.now areas) columns.now.nexts.now (st.top + st.height) at (around w i) (sides_of sides) }
-    ensures { (areas : List ℕ) (at : ℕ → List Span) (w i : ℕ)
-        → Cursors (contents_in columns.now areas) columns.now.nexts.now (st.top + st.height) at (around w i) (sides_of sides)
-        → Cursors (contents_in columns.now areas) columns.now.nexts.now (st.top + st.height) at (around w i) (sides_of result.sides)
-        × (Inside (around w i) → hollow ≡ hollow_of at (around w i) → result.area ≡ cond (ledge (stand_of st) at (around w i)) 0 area) }
+    requires are_cursors { AreCursors columns.now (st.top + st.height) sides }
+    ensures keeps_cursors { (areas : List ℕ) (at : ℕ → List Span) (w i : ℕ)
+        → Serve columns.now areas (st.top + st.height) at w i sides → Serve columns.now areas (st.top + st.height) at w i result.sides }
+    ensures judged { (areas : List ℕ) (at : ℕ → List Span) (w i : ℕ)
+        → Serve columns.now areas (st.top + st.height) at w i sides → Inside (around w i) → hollow ≡ hollow_of at (around w i)
+        → result.area ≡ cond (ledge (stand_of st) at (around w i)) 0 area }
 {
-    let need = u32::from(st.top) + u32::from(st.height);
     if area == 0 {
         return Judged { area: 0, sides };
     }
-    if u32::from(st.roof) < need {
+    if !has_room(st.top, st.height, st.roof) {
         return Judged { area, sides };
     }
-    if need <= u32::from(hollow) {
+    if has_room(st.top, st.height, hollow) {
         return Judged { area: 0, sides };
     }
-    let sides = follow(columns, sides, need);
+    let sides = follow(columns, sides, st);
     if looks_steep(columns, sides, st) {
         return Judged { area: 0, sides };
     }
@@ -211,8 +207,7 @@ fn sides_of(heads: &[u32], width: usize, column: usize) -> Sides
 
 // The highest of the floors of the slots beside.
 fn hollow_of(floors: &[u16], sides: Sides) -> u16
-    requires { (nexts : List ℕ) × (length floors.now ≡ length nexts) × (ceilings : List ℕ) × (areas : List ℕ) × (need : ℕ) × (at : ℕ → List Span) × (w : ℕ)
-        × (i : ℕ) × Cursors (contents floors.now ceilings areas) nexts need at (around w i) (sides_of sides) }
+    requires { AllSlots floors.now sides }
     ensures { result ≡ greatest (map (roof_at floors.now) (sides_of sides)) }
 {
     let a = roof_of(floors, sides.west).max(roof_of(floors, sides.north));
@@ -261,16 +256,17 @@ fn clear_inner(
 }
 
 // The filter on a column at the rim, where every span is at a ledge.
-fn clear_all(nexts: &[u32], areas: &mut [u8], head: u32)
-    requires even { length areas.old ≡ length nexts.now }
-    requires is_chain { (ss : List ℕ) × (Chain nexts.now head ss × Distinct ss) }
-    ensures { (floors ceilings ss : List ℕ) → Chain nexts.now head ss → areas.new ≡ assign areas.old ss (ruled (λ below s above. 0) [] (map (span_at (contents floors ceilings areas.old)) ss)) }
+fn clear_all(columns: &Columns<'_>, areas: &mut [u8], head: u32)
+    requires even { length areas.old ≡ length columns.now.nexts.now }
+    requires is_chain { (ss : List ℕ) × (Chain columns.now.nexts.now head ss × Distinct ss) }
+    ensures { (ss : List ℕ) → Chain columns.now.nexts.now head ss
+        → areas.new ≡ assign areas.old ss (ruled (λ below s above. 0) [] (map (span_at (contents_in columns.now areas.old)) ss)) }
 {
     let mut at = head;
     while at != NONE {
         let i = at as usize;
         areas[i] = 0;
-        at = nexts[i];
+        at = columns.nexts[i];
     }
 }
 
@@ -299,7 +295,7 @@ fn clear_column(
         return;
     }
     if on_rim(size, c) {
-        clear_all(columns.nexts, areas, head);
+        clear_all(columns, areas, head);
     } else {
         clear_inner(columns, areas, size.width as usize, column, height, climb);
     }

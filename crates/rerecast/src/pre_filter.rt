@@ -181,7 +181,11 @@ pub fn filter_ledge_spans(
 fn lower(height: u16, roof: u16, ceiling: u16, area: u8) -> u8
     ensures { result ≡ cond (ltb roof (ceiling + height)) 0 area }
 {
-    if has_room(ceiling, height, roof) { area } else { 0 }
+    if has_room(ceiling, height, roof) {
+        area
+    } else {
+        0
+    }
 }
 
 // The filter on the column that starts at `head`.

@@ -26,12 +26,12 @@ pub(crate) fn words(rt: &impl Print) -> io::Result<()> {
     word(
         rt,
         b"P7                           3371438019                      ",
-        CompactSpan::with_links(200, 3, 63, 0, 61),
+        CompactSpan::with_links(200, [3, 63, 0, 61]),
     )?;
     word(
         rt,
         b"P8                           4294967295                      ",
-        CompactSpan::with_links(255, 63, 63, 63, 63),
+        CompactSpan::with_links(255, [63, 63, 63, 63]),
     )?;
     whole(
         rt,
