@@ -3,8 +3,8 @@ pub mod Admitted
 pub mod MeshAdmitted
 pub mod Answers
 pub mod Columns
-pub mod Filtered
 pub mod Rasterizing
+pub mod Populated
 pub mod Compacting
 pub mod Around
 pub mod LinkCursors
