@@ -57,7 +57,7 @@ module _ (g : Grid) (w h : ℕ) (m : Mesh) (tall climb : ℕ) (s : Store) where
       (f, H, subst (λ (k : Meshed). Ends (w * h) s (says_of k) (leaves k) (left (refusal_says r) s')) (sym (kept (filtered_by w h tall climb) o r E.says)) E)
 
   -- the slots are then `t''`
-  pub mesh-filtered : (heads' marks' : List ℕ) (t' t'' : Slots) → Builds (w * h) (rasterized (frame_of g w h) m climb) s (left (just 0) (store heads' t' marks'))
+  mesh-filtered : (heads' marks' : List ℕ) (t' t'' : Slots) → Builds (w * h) (rasterized (frame_of g w h) m climb) s (left (just 0) (store heads' t' marks'))
       → ((f : Field) → Holds (take (w * h) heads') t' f → Holds (take (w * h) heads') t'' (filtered_by w h tall climb f))
       → Builds (w * h) (populated (frame_of g w h) m tall climb) s (left (just 0) (store heads' t'' marks'))
   unfolding frame_of

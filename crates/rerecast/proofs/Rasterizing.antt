@@ -78,11 +78,7 @@ module _ (job : Job) {es : List Event} (near more : List Event) (e : es ≡ and_
   unfolding and_then
   turn_stopped halt C = turned (Err halt) C
 
--- ---- the heads and the frame
-
--- the heads are still as many
-pub again : {f : Frame} (heads : List ℕ) (heads' : List ℕ) → Ready f heads → length heads' ≡ length heads → Ready f heads'
-again heads heads' R e = record { sides = R.sides; all = e ∙ R.all }
+-- ---- the frame
 
 -- a frame over the first heads of a store
 pub framed : (g : Grid) (w h : ℕ) {f : Frame} {heads : List ℕ} → f ≡ frame_of g w h → Sides w h → length heads ≡ w * h → Ready f heads

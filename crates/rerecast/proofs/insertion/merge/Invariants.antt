@@ -6,7 +6,10 @@ use Rattle.rerecast.specs.Lent.{slots_of, SameSlots}
 use Rattle.rerecast.proofs.insertion.merge.Given as goal
 
 abbrev pub invariant-loop-at : goal.invariant-loop-at
-invariant-loop-at l = Merging l.threshold (slots_of l.initial.slots) l.first l.initial.span (slots_of l.slots) l.at l.span l.count × SameSlots l.initial.slots l.slots
+invariant-loop-at l = record {
+  merging : Merging l.threshold (slots_of l.initial.slots) l.first l.initial.span (slots_of l.slots) l.at l.span l.count;
+  same : SameSlots l.initial.slots l.slots;
+}
 
 abbrev pub decreases-loop-at : goal.decreases-loop-at
 decreases-loop-at l = length (slots_from l.slots.nexts.now l.at)

@@ -9,8 +9,10 @@ use Rattle.rerecast.specs.Lent.{slots_of, mesh_of, SameSlots}
 use Rattle.rerecast.proofs.rasterize.triangles.Given as goal
 
 abbrev pub invariant-loop-t : goal.invariant-loop-t
-invariant-loop-t l = ((others : List ℕ) (f : Field) → Holds (l.initial.heads ++ others) (slots_of l.initial.slots) f
-    → MeshRemains l.frame.width l.threshold (work_of l.frame (mesh_of l.mesh)) (rasterized l.frame (mesh_of l.mesh) l.threshold f) (length l.mesh.areas.now) l.t
-    (l.heads ++ others)
-    (slots_of l.slots))
-    × SameSlots l.initial.slots l.slots
+invariant-loop-t l = record {
+  remains : (others : List ℕ) (f : Field) → Holds (l.initial.heads ++ others) (slots_of l.initial.slots) f
+      → MeshRemains l.frame.width l.threshold (work_of l.frame (mesh_of l.mesh)) (rasterized l.frame (mesh_of l.mesh) l.threshold f) (length l.mesh.areas.now) l.t
+      (l.heads ++ others)
+      (slots_of l.slots);
+  same : SameSlots l.initial.slots l.slots;
+}

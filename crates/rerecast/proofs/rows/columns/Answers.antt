@@ -92,7 +92,7 @@ module _ (job : Job) (z last k count : ℕ) (upper : Bool) (n : ℕ) (xs ys : Li
 pub column-requires-clause-held : goal.column-requires-clause-held
 column-requires-clause-held c =
     let held = c.requires.held in
-    let now = c.loop-k.invariant.3 held.0 held.1.0 held.1.1 in
+    let now = c.loop-k.invariant.remains held.0 held.1.0 held.1.1 in
     (held.0, (now.field, now.holds))
 
 pub returns-in_err-count-clause-carries : goal.returns-in_err-count-clause-carries
@@ -101,8 +101,8 @@ returns-in_err-count-clause-carries c others f H =
     let v = c.loop-k in
     let a = c.args in
     let cut = cut-is a.job.frame v.k _ _ _ _ (record { sfits = c.number.type_inv }) c.number.ensures c.edge-end.ensures c.cut_cell-d.ensures in
-    let now = v.invariant.3 others f H in
-    rw (p.1, p.2) (stops a.job a.z a.last v.k v.count _ _ _ _ cut v.invariant.0 v.invariant.1 c.loop-k-test.true now _ (c.in_err-count.ensures.carries others now.field))
+    let now = v.invariant.remains others f H in
+    rw (p.1, p.2) (stops a.job a.z a.last v.k v.count _ _ _ _ cut v.invariant.few v.invariant.long c.loop-k-test.true now _ (c.in_err-count.ensures.carries others now.field))
 
 pub loop-k-preserved : goal.loop-k-preserved
 loop-k-preserved c =
@@ -111,16 +111,17 @@ loop-k-preserved c =
     let cut = cut-is a.job.frame v.k _ _ _ _ (record { sfits = c.number.type_inv }) c.number.ensures c.edge-end.ensures c.cut_cell-d.ensures in
     let told = c.in_ok-count.ensures.carries in
     let held = c.requires.held in
-    let now = v.invariant.3 held.0 held.1.0 held.1.1 in
-    let here = small a.job a.z a.last v.k v.count _ _ _ _ cut v.invariant.0 v.invariant.1 c.loop-k-test.true now _ (told held.0 now.field) in (
-      here.1,
-      places a.job a.z a.last v.k v.count _ _ _ _ cut v.invariant.0 v.invariant.1 c.loop-k-test.true,
-      omega (arith, here.0, v.invariant.2),
-      λ others f H.
-          let at = v.invariant.3 others f H in
-          goes a.job a.z a.last v.k v.count _ _ _ _ cut v.invariant.0 v.invariant.1 c.loop-k-test.true at _ (told others at.field),
-      search rules,
-    )
+    let now = v.invariant.remains held.0 held.1.0 held.1.1 in
+    let here = small a.job a.z a.last v.k v.count _ _ _ _ cut v.invariant.few v.invariant.long c.loop-k-test.true now _ (told held.0 now.field) in
+    record {
+      few = here.1;
+      long = places a.job a.z a.last v.k v.count _ _ _ _ cut v.invariant.few v.invariant.long c.loop-k-test.true;
+      made = omega (arith, here.0, v.invariant.made);
+      remains = λ others f H.
+          let at = v.invariant.remains others f H in
+          goes a.job a.z a.last v.k v.count _ _ _ _ cut v.invariant.few v.invariant.long c.loop-k-test.true at _ (told others at.field);
+      same = search rules;
+    }
 
 pub returns-clause-carries : goal.returns-clause-carries
 returns-clause-carries c others f H =
@@ -128,4 +129,4 @@ returns-clause-carries c others f H =
     let a = c.args in
     remains-as a.job.frame.width a.job.threshold a.job.area v.count
     (turns-end X (edge_at a.job.frame X) (cell_events a.job.frame a.z) a.last v.k (flat_at v.px v.py (half v.upper) v.rest) (omega (arith, c.loop-k-test.false)))
-    (v.invariant.3 others f H)
+    (v.invariant.remains others f H)

@@ -14,14 +14,16 @@ use Rattle.rerecast.specs.Rasterize.{BothPlaces}
 use Rattle.rerecast.proofs.rows.columns.Given as goal
 
 abbrev pub invariant-loop-k : goal.invariant-loop-k
-invariant-loop-k l = (l.rest ≤ 7)
-    × BothPlaces l.px l.py
-    × (l.count + l.first ≤ l.made + l.k)
-    × ((others : List ℕ) (f : Field) → Holds (l.initial.heads ++ others) (slots_of l.initial.slots) f
-    → Remains l.job.frame.width l.job.threshold l.job.area
-    (carry l.job.frame.width l.job.threshold l.job.area l.made f (turns_to X (edge_at l.job.frame X) (cell_events l.job.frame l.z) l.last l.first (flat_at l.xs l.ys 0 l.n)))
-    l.count
-    (turns_to X (edge_at l.job.frame X) (cell_events l.job.frame l.z) l.last l.k (flat_at l.px l.py (half l.upper) l.rest))
-    (l.heads ++ others)
-    (slots_of l.slots))
-    × SameSlots l.initial.slots l.slots
+invariant-loop-k l = record {
+  few : l.rest ≤ 7;
+  long : BothPlaces l.px l.py;
+  made : l.count + l.first ≤ l.made + l.k;
+  remains : (others : List ℕ) (f : Field) → Holds (l.initial.heads ++ others) (slots_of l.initial.slots) f
+      → Remains l.job.frame.width l.job.threshold l.job.area
+      (carry l.job.frame.width l.job.threshold l.job.area l.made f (turns_to X (edge_at l.job.frame X) (cell_events l.job.frame l.z) l.last l.first (flat_at l.xs l.ys 0 l.n)))
+      l.count
+      (turns_to X (edge_at l.job.frame X) (cell_events l.job.frame l.z) l.last l.k (flat_at l.px l.py (half l.upper) l.rest))
+      (l.heads ++ others)
+      (slots_of l.slots);
+  same : SameSlots l.initial.slots l.slots;
+}

@@ -87,7 +87,7 @@ module _ (job : Job) (last k count : ℕ) (upper : Bool) (n : ℕ) (a b : Arrays
 pub row_at-requires-clause-held : goal.row_at-requires-clause-held
 row_at-requires-clause-held c =
     let held = c.requires.held in
-    let now = c.loop-k.invariant.4 held.0 held.1.0 held.1.1 in
+    let now = c.loop-k.invariant.remains held.0 held.1.0 held.1.1 in
     (held.0, (now.field, now.holds))
 
 pub returns-in_err-count-clause-carries : goal.returns-in_err-count-clause-carries
@@ -99,8 +99,8 @@ returns-in_err-count-clause-carries c others f H =
     let d = c.divide-d in
     let δ = divided d.result (arrays d.new.xs d.new.ys d.new.zs) (arrays d.new.rx d.new.ry d.new.rz) in
     let cut = cut-is a.job.frame v.k _ _ _ _ {δ = δ} (record { sfits = c.number.type_inv }) c.number.ensures c.edge-end.ensures d.ensures in
-    let now = i.4 others f H in
-    rw (p.1, p.2) (stops a.job a.last v.k v.count _ _ _ _ cut i.0 i.1 i.2 c.loop-k-test.true now _ (c.in_err-count.ensures.carries others now.field))
+    let now = i.remains others f H in
+    rw (p.1, p.2) (stops a.job a.last v.k v.count _ _ _ _ cut i.few i.long i.part-long c.loop-k-test.true now _ (c.in_err-count.ensures.carries others now.field))
 
 pub loop-k-preserved : goal.loop-k-preserved
 loop-k-preserved c =
@@ -112,17 +112,18 @@ loop-k-preserved c =
     let cut = cut-is a.job.frame v.k _ _ _ _ {δ = δ} (record { sfits = c.number.type_inv }) c.number.ensures c.edge-end.ensures d.ensures in
     let told = c.in_ok-count.ensures.carries in
     let held = c.requires.held in
-    let now = i.4 held.0 held.1.0 held.1.1 in
-    let here = small a.job a.last v.k v.count _ _ _ _ cut i.0 i.1 i.2 c.loop-k-test.true now c.requires.ready.0.sides _ (told held.0 now.field) in (
-      here.1,
-      polygon-long v.upper v.rest Z _ _ _ _ cut i.1,
-      part-long v.upper v.rest Z _ _ _ _ cut i.2,
-      omega (arith, here.0, i.3),
-      λ others f H.
-          let at = i.4 others f H in
-          goes a.job a.last v.k v.count _ _ _ _ cut i.0 i.1 i.2 c.loop-k-test.true at _ (told others at.field),
-      search rules,
-    )
+    let now = i.remains held.0 held.1.0 held.1.1 in
+    let here = small a.job a.last v.k v.count _ _ _ _ cut i.few i.long i.part-long c.loop-k-test.true now c.requires.ready.0.sides _ (told held.0 now.field) in
+    record {
+      few = here.1;
+      long = polygon-long v.upper v.rest Z _ _ _ _ cut i.long;
+      part-long = part-long v.upper v.rest Z _ _ _ _ cut i.part-long;
+      made = omega (arith, here.0, i.made);
+      remains = λ others f H.
+          let at = i.remains others f H in
+          goes a.job a.last v.k v.count _ _ _ _ cut i.few i.long i.part-long c.loop-k-test.true at _ (told others at.field);
+      same = search rules;
+    }
 
 pub returns-clause-carries : goal.returns-clause-carries
 returns-clause-carries c others f H =
@@ -130,4 +131,4 @@ returns-clause-carries c others f H =
     let a = c.args in
     remains-as a.job.frame.width a.job.threshold a.job.area v.count
     (turns-end Z (edge_at a.job.frame Z) (row_events a.job.frame) a.last v.k (polygon_at (arrays v.px v.py v.pz) (half v.upper) v.rest) (omega (arith, c.loop-k-test.false)))
-    (v.invariant.4 others f H)
+    (v.invariant.remains others f H)

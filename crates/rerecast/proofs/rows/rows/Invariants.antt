@@ -13,15 +13,17 @@ use Rattle.rerecast.specs.Lent.{slots_of, SameSlots}
 use Rattle.rerecast.proofs.rows.rows.Given as goal
 
 abbrev pub invariant-loop-k : goal.invariant-loop-k
-invariant-loop-k l = (l.rest ≤ 7)
-    × Long 28 (arrays l.px l.py l.pz)
-    × Long 28 (arrays l.rx l.ry l.rz)
-    × (l.count ≤ l.k * 4097)
-    × ((others : List ℕ) (f : Field) → Holds (l.initial.heads ++ others) (slots_of l.initial.slots) f
-    → Remains l.job.frame.width l.job.threshold l.job.area
-    (carry l.job.frame.width l.job.threshold l.job.area 0 f (turns_to Z (edge_at l.job.frame Z) (row_events l.job.frame) l.last l.first (polygon_at (arrays l.xs l.ys l.zs) 0 3)))
-    l.count
-    (turns_to Z (edge_at l.job.frame Z) (row_events l.job.frame) l.last l.k (polygon_at (arrays l.px l.py l.pz) (half l.upper) l.rest))
-    (l.heads ++ others)
-    (slots_of l.slots))
-    × SameSlots l.initial.slots l.slots
+invariant-loop-k l = record {
+  few : l.rest ≤ 7;
+  long : Long 28 (arrays l.px l.py l.pz);
+  part-long : Long 28 (arrays l.rx l.ry l.rz);
+  made : l.count ≤ l.k * 4097;
+  remains : (others : List ℕ) (f : Field) → Holds (l.initial.heads ++ others) (slots_of l.initial.slots) f
+      → Remains l.job.frame.width l.job.threshold l.job.area
+      (carry l.job.frame.width l.job.threshold l.job.area 0 f (turns_to Z (edge_at l.job.frame Z) (row_events l.job.frame) l.last l.first (polygon_at (arrays l.xs l.ys l.zs) 0 3)))
+      l.count
+      (turns_to Z (edge_at l.job.frame Z) (row_events l.job.frame) l.last l.k (polygon_at (arrays l.px l.py l.pz) (half l.upper) l.rest))
+      (l.heads ++ others)
+      (slots_of l.slots);
+  same : SameSlots l.initial.slots l.slots;
+}
