@@ -42,7 +42,7 @@ fn join(threshold: u16, new: Span, old: Span) -> Span
     }
 }
 
-// Where a walk up a column stops: the slot before, and the slot there.
+// Where a walk up a column stops: the slot before, and the slot there. No slot is NONE here too, and no Option: both go into the slices that C lends.
 #[derive(Clone, Copy)]
 struct Place {
     before: u32,

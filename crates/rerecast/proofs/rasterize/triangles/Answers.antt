@@ -1,4 +1,5 @@
 -- `rasterize::triangles` meets its contract.
+use native.Mathlib.Omega.{arith}
 use Rattle.std.proofs.Common.{rules}
 use Rattle.field.proofs.Meshing.{mesh-on, mesh-halts-says, mesh-halts-holds, mesh-ends-says, mesh-ends-holds}
 use Rattle.rerecast.proofs.rasterize.triangles.Goals as goal
@@ -15,8 +16,8 @@ returns-in-Err-clause-worked c others f H =
     let now = c.loop-t.invariant.remains others f H in
     let R = c.in-Err.ensures.worked others now.field now.holds in
     record {
-      says = mesh-halts-says a.frame.width a.threshold _ now c.loop-t-test.true R;
-      holds = mesh-halts-holds a.frame.width a.threshold _ now c.loop-t-test.true R;
+      says = mesh-halts-says a.frame.width a.threshold _ now (omega arith) R;
+      holds = mesh-halts-holds a.frame.width a.threshold _ now (omega arith) R;
     }
 
 pub loop-t-preserved : goal.loop-t-preserved
@@ -24,7 +25,7 @@ loop-t-preserved c = record {
   remains = λ others f H.
       let a = c.args in
       let now = c.loop-t.invariant.remains others f H in
-      mesh-on a.frame.width a.threshold _ now c.loop-t-test.true (c.in_default.ensures.worked others now.field now.holds);
+      mesh-on a.frame.width a.threshold _ now (omega arith) (c.in_default.ensures.worked others now.field now.holds);
   same = search rules;
 }
 
@@ -33,6 +34,6 @@ returns-clause-worked c others f H =
     let a = c.args in
     let now = c.loop-t.invariant.remains others f H in
     record {
-      says = mesh-ends-says a.frame.width a.threshold _ now c.loop-t-test.false;
-      holds = mesh-ends-holds a.frame.width a.threshold _ now c.loop-t-test.false;
+      says = mesh-ends-says a.frame.width a.threshold _ now (omega arith);
+      holds = mesh-ends-holds a.frame.width a.threshold _ now (omega arith);
     }
