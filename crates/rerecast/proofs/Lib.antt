@@ -5,6 +5,7 @@ pub mod Answers
 pub mod Columns
 pub mod Filtered
 pub mod Rasterizing
+pub mod Populated
 pub mod Compacting
 pub mod Around
 pub mod LinkCursors
