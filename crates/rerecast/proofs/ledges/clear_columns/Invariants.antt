@@ -1,5 +1,5 @@
 -- The loop's invariant: after each column, what is left of them ends as the whole would, and the place is that of the next.
-use Prim.Native.Nat.{ℕ, ◌+◌, ◌*◌, ◌<◌}
+use Prim.Native.Nat.{◌+◌, ◌*◌, ◌<◌}
 use mathlib.Core.Path.{◌≡◌}
 use Rattle.field.specs.Field.{Field, spans, Holds}
 use Rattle.field.specs.Beside.{beside}

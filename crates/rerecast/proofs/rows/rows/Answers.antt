@@ -5,16 +5,13 @@ use mathlib.Core.List.{List}
 use Prim.Native.Nat.{ℕ, ◌+◌, ◌<◌, ◌≤◌}
 use native.Mathlib.Omega.{arith}
 use lib.IntN.{ℤ}
-use lib.ListN.{length}
 use lib.Ieee.{Float}
 use mir.Syntax.{w16}
 use mir.Val.{SFits, to_z, of_z}
 use Rattle.std.specs.Prelude.{Result, Ok, Err}
 use Rattle.std.proofs.Common.{rules}
 use Rattle.std.proofs.lemmas.Result.{err_from_is_err_and}
-use Rattle.grid.specs.declared.Corner.{Corner}
 use Rattle.clip.specs.declared.frame.Frame.{Frame}
-use Rattle.clip.specs.declared.cut.Counts.{Counts}
 use Rattle.clip.specs.declared.cut.Axis.TheVariants.{Z}
 use Rattle.clip.specs.Arrays.{Arrays, arrays, polygon_at, half, Divided, divide_of}
 use Rattle.clip.specs.Cell.{flat_at}
