@@ -3,7 +3,6 @@ pub mod Admitted
 pub mod MeshAdmitted
 pub mod Answers
 pub mod Columns
-pub mod Filtered
 pub mod Rasterizing
 pub mod Populated
 pub mod Compacting

@@ -10,7 +10,7 @@ use Rattle.grid.specs.Grid.{width, height}
 use Rattle.clip.specs.Work.{frame_of}
 use Rattle.field.specs.Slots.{Slots, slots}
 use Rattle.field.specs.Field.{Field, Holds, Held}
-use Rattle.field.specs.Store.{Store, store, left, Ends, Outcome}
+use Rattle.field.specs.Store.{Store, store, left, Ends}
 use Rattle.field.specs.Carrying.{Meshed, placed, halted, says_of, leaves}
 use Rattle.field.specs.Meshes.{Mesh, rasterized, Builds, Given}
 use Rattle.field.specs.Populate.{filtered_by, afterwards, populated}
@@ -22,6 +22,7 @@ use Rattle.rerecast.specs.declared.lent.Slots as lent
 use Rattle.rerecast.specs.declared.Stop.TheVariants as stop
 use Rattle.rerecast.specs.declared.Refusal.{Refusal}
 use Rattle.rerecast.specs.declared.Refusal.TheVariants.{BadNumber, BoxOrder, GridSize, Slices, Unsound, OffGrid, Inverted, NoSlot, Layers, Crowded, SpansShort, NoVertex, Stopped}
+use Rattle.rerecast.proofs.GivenBack.{GivenBack, given-back}
 use Rattle.rerecast.proofs.MeshAdmitted.{mesh-made}
 
 -- no refusal has the number of an accepted call
@@ -65,21 +66,22 @@ module _ (g : Grid) (w h : ℕ) (m : Mesh) (tall climb : ℕ) (s : Store) where
       let k = placed-filtered (filtered_by w h tall climb) o E.says in
       (f, H, record { says = k.0; holds = rw k.1 (filters (leaves o) E.holds); beyond = E.beyond; marks = E.marks })
 
--- the store then holds a sound field
-pub held-after : {n : ℕ} {s : Store} {said : Said} {f : Field} {o : Outcome} → Ends n s said f o → {k : ℕ} → k ≡ n → Held (take k o.store.heads) o.store.slots
-held-after {f = f} E e = (f, rw e E.holds)
-
 -- ---- a call past all tests
 
-module _ (w h : ℕ) (g : Grid) (m : Mesh) (s : Store) (marks' : List ℕ) (P : Passes w h g m s marks') (tall climb : ℕ) (heads' : List ℕ) (l : lent.Slots) {free : ℕ}
-    {fl ce ar nx : List ℕ} (back : (free ≡ l.free.now) × (fl ≡ l.floors.now) × (ce ≡ l.ceilings.now) × (ar ≡ l.areas.now) × (nx ≡ l.nexts.now)) where
-  -- the filters find the field as the mesh left it, and change the areas alone
-  pub mesh-populated : {n : ℕ} → n ≡ w * h → (ar'' : List ℕ)
-      → ((marks : List ℕ) → Builds (w * h) (rasterized (frame_of g w h) m climb) (store s.heads s.slots marks) (left (just 0) (store heads' (slots_of l) (replicate (length s.slots.nexts) 0))))
-      → ((f : Field) → Holds (take n heads') (slots free fl ce ar nx) f → Holds (take n heads') (slots free fl ce ar'' nx) (filtered_by w h tall climb f))
-      → Given g m (populated (frame_of g (width g) (height g)) m tall climb) s (left (just 0) (store heads' (slots free fl ce ar'' nx) marks'))
-  mesh-populated en ar'' made filters =
-      mesh-made w h g m s marks' P (λ x y. populated (frame_of g x y) m tall climb) (just 0) heads' (slots free fl ce ar'' nx)
+module _ (w h : ℕ) (g : Grid) (m : Mesh) (s : Store) (marks' : List ℕ) (P : Passes w h g m s marks') (climb : ℕ) (heads' : List ℕ) (l : lent.Slots) {free : ℕ}
+    {fl ce ar nx : List ℕ} (back : GivenBack l free fl ce ar nx)
+    (made : (marks : List ℕ) → Builds (w * h) (rasterized (frame_of g w h) m climb) (store s.heads s.slots marks)
+    (left (just 0) (store heads' (slots_of l) (replicate (length s.slots.nexts) 0)))) {n : ℕ} (en : n ≡ w * h) where
+  -- the filters find the field as the mesh left it
+  pub mesh-held : Held (take n heads') (slots free fl ce ar nx)
+  mesh-held = let (f, H, E) = made s.marks in (leaves (rasterized (frame_of g w h) m climb f), rw (given-back l back, en) E.holds)
+
+  -- and change the areas alone
+  pub mesh-populated : (tall : ℕ) (areas : List ℕ)
+      → ((f : Field) → Holds (take n heads') (slots free fl ce ar nx) f → Holds (take n heads') (slots free fl ce areas nx) (filtered_by w h tall climb f))
+      → Given g m (populated (frame_of g (width g) (height g)) m tall climb) s (left (just 0) (store heads' (slots free fl ce areas nx) marks'))
+  mesh-populated tall areas filters =
+      mesh-made w h g m s marks' P (λ x y. populated (frame_of g x y) m tall climb) (just 0) heads' (slots free fl ce areas nx)
       (λ marks.
-      mesh-filtered g w h m tall climb (store s.heads s.slots marks) heads' _ (slots free fl ce ar nx) (slots free fl ce ar'' nx)
-      (rw (back.0, back.1, back.2, back.3, back.4) (made marks)) (rw en at filters))
+      mesh-filtered g w h m tall climb (store s.heads s.slots marks) heads' _ (slots free fl ce ar nx) (slots free fl ce areas nx)
+      (rw (given-back l back) (made marks)) (rw en at filters))

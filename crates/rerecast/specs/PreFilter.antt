@@ -12,7 +12,7 @@ use Rattle.rerecast.specs.declared.ledges.Sides.{Sides}
 use Rattle.rerecast.specs.Lent.{contents_in}
 
 abbrev pub stand_of : code-stand.Stand → Stand
-stand_of s = record { top = s.top; roof = s.roof; height = s.height; climb = s.climb }
+stand_of s = record { top = s.top; roof = s.roof; height = s.agent.height; climb = s.agent.climb }
 
 -- no drop was seen, but these ceilings
 abbrev pub reach_of : Reach → View

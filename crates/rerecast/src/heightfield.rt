@@ -14,7 +14,7 @@ ghost use Rattle.rerecast.specs.Lent.{slots_of, slots_in, SameSlots};
 use crate::Refusal;
 use crate::admission::{admit, slices_fit};
 use crate::insertion::insert_span;
-use crate::ledges::clear_columns;
+use crate::ledges::{Agent, clear_columns};
 use crate::lent::{Columns, Mesh, Slots};
 use crate::mesh_admission::admit_mesh;
 use crate::pre_filter::{lower_columns, raise_columns};
@@ -154,17 +154,16 @@ fn filter_all(
     columns: &Columns<'_>,
     areas: &mut [u8],
     size: Size,
-    walkable_height: u16,
-    walkable_climb: u16,
+    agent: Agent,
 )
     requires all_columns { size.width * size.height ≡ length columns.now.heads.now }
     requires held { Held columns.now.heads.now (slots_in columns.now areas.old) }
     ensures { (f : Field) → Holds columns.now.heads.now (slots_in columns.now areas.old) f
-        → Holds columns.now.heads.now (slots_in columns.now areas.new) (filtered_by size.width size.height walkable_height walkable_climb f) }
+        → Holds columns.now.heads.now (slots_in columns.now areas.new) (filtered_by size.width size.height agent.height agent.climb f) }
 {
-    raise_columns(columns, areas, walkable_climb);
-    clear_columns(columns, areas, size, walkable_height, walkable_climb);
-    lower_columns(columns, areas, walkable_height);
+    raise_columns(columns, areas, agent.climb);
+    clear_columns(columns, areas, size, agent);
+    lower_columns(columns, areas, agent.height);
 }
 
 // Puts a mesh into the field, with the climb as merge threshold, and runs the three filters once all of it is placed. A mesh that stops is not filtered.
@@ -215,6 +214,10 @@ pub fn populate_from_trimesh(
         ceilings,
         nexts,
     };
-    filter_all(&columns, areas, size, walkable_height, walkable_climb);
+    let agent = Agent {
+        height: walkable_height,
+        climb: walkable_climb,
+    };
+    filter_all(&columns, areas, size, agent);
     Ok(())
 }

@@ -19,13 +19,19 @@ use crate::pre_filter::{change_byte, has_room, roof_of, within};
 use field::NONE;
 use grid::Size;
 
-// Where an agent stands: the ceiling of a span and the floor above it, with the walkable height and the climb.
+// What an agent needs and can do: the walkable height and the walkable climb.
+#[derive(Clone, Copy)]
+pub(crate) struct Agent {
+    pub height: u16,
+    pub climb: u16,
+}
+
+// Where an agent stands: the ceiling of a span and the floor above it.
 #[derive(Clone, Copy)]
 struct Stand {
     top: u16,
     roof: u16,
-    height: u16,
-    climb: u16,
+    agent: Agent,
 }
 
 // The least and the greatest ceiling that a look at neighbour spans has found to be stepped to.
@@ -54,16 +60,16 @@ struct Judged {
 // One neighbour span more: its ceiling, and the floor above it. Nothing is left where it is a drop. No floor comes here that is too low, nor a ceiling that
 // is too high, so only the room between the two is tested.
 fn see(st: Stand, ceiling: u16, floor: u16, reach: Reach) -> Option<Reach>
-    requires { (st.top + st.height ≤ st.roof) × (st.top + st.height ≤ floor) × (ceiling + st.height ≤ st.roof) }
+    requires { (st.top + st.agent.height ≤ st.roof) × (st.top + st.agent.height ≤ floor) × (ceiling + st.agent.height ≤ st.roof) }
     ensures { Sees result (seen (stand_of st) ceiling floor (reach_of reach)) }
 {
-    if !has_room(ceiling, st.height, floor) {
+    if !has_room(ceiling, st.agent.height, floor) {
         return Some(reach);
     }
-    if !within(st.top, ceiling, st.climb) {
+    if !within(st.top, ceiling, st.agent.climb) {
         return None;
     }
-    if !within(ceiling, st.top, st.climb) {
+    if !within(ceiling, st.top, st.agent.climb) {
         return Some(reach);
     }
     Some(Reach {
@@ -76,7 +82,7 @@ fn see(st: Stand, ceiling: u16, floor: u16, reach: Reach) -> Option<Reach>
 fn look(columns: &Columns<'_>, s: u32, st: Stand, start: Reach) -> Option<Reach>
     requires even { EvenSlots columns.now }
     requires is_chain { (ss : List ℕ) × (Chain columns.now.nexts.now s ss × Climbs columns.now.floors.now columns.now.ceilings.now 0 ss) }
-    requires height_bound { (st.top + st.height ≤ st.roof) × Under columns.now (st.top + st.height) s }
+    requires height_bound { (st.top + st.agent.height ≤ st.roof) × Under columns.now (st.top + st.agent.height) s }
     ensures { (areas ss : List ℕ) → Chain columns.now.nexts.now s ss
         → Sees result (looked (stand_of st) (reach_of start) (map (span_at (contents_in columns.now areas)) ss)) }
 {
@@ -85,7 +91,7 @@ fn look(columns: &Columns<'_>, s: u32, st: Stand, start: Reach) -> Option<Reach>
     while at != NONE {
         let i = at as usize;
         let ceiling = columns.ceilings[i];
-        if !has_room(ceiling, st.height, st.roof) {
+        if !has_room(ceiling, st.agent.height, st.roof) {
             break;
         }
         let next = columns.nexts[i];
@@ -118,12 +124,12 @@ fn skip(columns: &Columns<'_>, s: u32, need: u32) -> u32
 // The slots beside, each moved up to the first under a floor that is high enough for the agent.
 fn follow(columns: &Columns<'_>, sides: Sides, st: Stand) -> Sides
     requires even { length columns.now.floors.now ≡ length columns.now.nexts.now }
-    requires are_cursors { AreCursors columns.now (st.top + st.height) sides }
+    requires are_cursors { AreCursors columns.now (st.top + st.agent.height) sides }
     ensures keeps_cursors { (areas : List ℕ) (at : ℕ → List Span) (w i : ℕ)
-        → Serve columns.now areas (st.top + st.height) at w i sides → Serve columns.now areas (st.top + st.height) at w i result }
-    ensures all_under { AllUnder columns.now (st.top + st.height) result }
+        → Serve columns.now areas (st.top + st.agent.height) at w i sides → Serve columns.now areas (st.top + st.agent.height) at w i result }
+    ensures all_under { AllUnder columns.now (st.top + st.agent.height) result }
 {
-    let need = u32::from(st.top) + u32::from(st.height);
+    let need = u32::from(st.top) + u32::from(st.agent.height);
     Sides {
         west: skip(columns, sides.west, need),
         north: skip(columns, sides.north, need),
@@ -135,10 +141,10 @@ fn follow(columns: &Columns<'_>, sides: Sides, st: Stand) -> Sides
 // What can be stepped to of the spans from the slots beside up, where none of them is a drop.
 fn look_around(columns: &Columns<'_>, sides: Sides, st: Stand) -> Option<Reach>
     requires even { EvenSlots columns.now }
-    requires are_cursors { AreCursors columns.now (st.top + st.height) sides }
-    requires height_bound { (st.top + st.height ≤ st.roof) × AllUnder columns.now (st.top + st.height) sides }
+    requires are_cursors { AreCursors columns.now (st.top + st.agent.height) sides }
+    requires height_bound { (st.top + st.agent.height ≤ st.roof) × AllUnder columns.now (st.top + st.agent.height) sides }
     ensures { (areas : List ℕ) (at : ℕ → List Span) (w i : ℕ)
-        → Serve columns.now areas (st.top + st.height) at w i sides
+        → Serve columns.now areas (st.top + st.agent.height) at w i sides
         → Sees result (looked_at (stand_of st) at (around w i)) }
 {
     let start = Reach {
@@ -154,14 +160,14 @@ fn look_around(columns: &Columns<'_>, sides: Sides, st: Stand) -> Option<Reach>
 // Whether the spans from the slots beside up show a ledge.
 fn looks_steep(columns: &Columns<'_>, sides: Sides, st: Stand) -> bool
     requires even { EvenSlots columns.now }
-    requires are_cursors { AreCursors columns.now (st.top + st.height) sides }
-    requires height_bound { (st.top + st.height ≤ st.roof) × AllUnder columns.now (st.top + st.height) sides }
+    requires are_cursors { AreCursors columns.now (st.top + st.agent.height) sides }
+    requires height_bound { (st.top + st.agent.height ≤ st.roof) × AllUnder columns.now (st.top + st.agent.height) sides }
     ensures { (areas : List ℕ) (at : ℕ → List Span) (w i : ℕ)
-        → Serve columns.now areas (st.top + st.height) at w i sides
+        → Serve columns.now areas (st.top + st.agent.height) at w i sides
         → result ≡ tells (stand_of st) (looked_at (stand_of st) at (around w i)) }
 {
     match look_around(columns, sides, st) {
-        Some(reach) => !within(reach.high, reach.low, st.climb),
+        Some(reach) => !within(reach.high, reach.low, st.agent.climb),
         None => true,
     }
 }
@@ -169,20 +175,20 @@ fn looks_steep(columns: &Columns<'_>, sides: Sides, st: Stand) -> bool
 // A span's area afterwards, where `hollow` is the highest of the lowest floors beside.
 fn judge(columns: &Columns<'_>, sides: Sides, hollow: u16, st: Stand, area: u8) -> Judged
     requires even { EvenSlots columns.now }
-    requires are_cursors { AreCursors columns.now (st.top + st.height) sides }
+    requires are_cursors { AreCursors columns.now (st.top + st.agent.height) sides }
     ensures keeps_cursors { (areas : List ℕ) (at : ℕ → List Span) (w i : ℕ)
-        → Serve columns.now areas (st.top + st.height) at w i sides → Serve columns.now areas (st.top + st.height) at w i result.sides }
+        → Serve columns.now areas (st.top + st.agent.height) at w i sides → Serve columns.now areas (st.top + st.agent.height) at w i result.sides }
     ensures judged { (areas : List ℕ) (at : ℕ → List Span) (w i : ℕ)
-        → Serve columns.now areas (st.top + st.height) at w i sides → Inside (around w i) → hollow ≡ hollow_of at (around w i)
+        → Serve columns.now areas (st.top + st.agent.height) at w i sides → Inside (around w i) → hollow ≡ hollow_of at (around w i)
         → result.area ≡ cond (ledge (stand_of st) at (around w i)) 0 area }
 {
     if area == 0 {
         return Judged { area: 0, sides };
     }
-    if !has_room(st.top, st.height, st.roof) {
+    if !has_room(st.top, st.agent.height, st.roof) {
         return Judged { area, sides };
     }
-    if has_room(st.top, st.height, hollow) {
+    if has_room(st.top, st.agent.height, hollow) {
         return Judged { area: 0, sides };
     }
     let sides = follow(columns, sides, st);
@@ -221,8 +227,7 @@ fn clear_inner(
     areas: &mut [u8],
     width: usize,
     column: usize,
-    height: u16,
-    climb: u16,
+    agent: Agent,
 )
     requires inside { (0 < column) × (width ≤ column) × (column + width < length columns.now.heads.now) × (column + 1 < length columns.now.heads.now) × (length columns.now.heads.now ≤ 1048576) }
     requires even { length areas.old ≡ length columns.now.nexts.now }
@@ -231,7 +236,7 @@ fn clear_inner(
         → Chain columns.now.nexts.now (get_or columns.now.heads.now column 0) ss
         → areas.new
         ≡ assign areas.old ss
-        (ruled (λ below s above. firm height climb (spans f) (around width column) s above) []
+        (ruled (λ below s above. firm agent.height agent.climb (spans f) (around width column) s above) []
         (map (span_at (contents_in columns.now areas.old)) ss)) }
 {
     let mut at = columns.heads[column];
@@ -244,8 +249,7 @@ fn clear_inner(
         let st = Stand {
             top: columns.ceilings[i],
             roof,
-            height,
-            climb,
+            agent,
         };
         let area = areas[i];
         let judged = judge(columns, sides, hollow, st, area);
@@ -276,8 +280,7 @@ fn clear_column(
     areas: &mut [u8],
     size: Size,
     c: Cell,
-    height: u16,
-    climb: u16,
+    agent: Agent,
 )
     requires on_grid { (c.x < size.width) × (c.z < size.height) × (size.width * size.height ≡ length columns.now.heads.now) }
     requires even { length areas.old ≡ length columns.now.nexts.now }
@@ -286,7 +289,7 @@ fn clear_column(
         → Chain columns.now.nexts.now (get_or columns.now.heads.now (c.x + c.z * size.width) 0) ss
         → areas.new
         ≡ assign areas.old ss
-        (ruled (λ below s above. firm height climb (spans f) (beside size.width size.height (c.x + c.z * size.width)) s above) []
+        (ruled (λ below s above. firm agent.height agent.climb (spans f) (beside size.width size.height (c.x + c.z * size.width)) s above) []
         (map (span_at (contents_in columns.now areas.old)) ss)) }
 {
     let column = column_at(size, c);
@@ -297,7 +300,7 @@ fn clear_column(
     if on_rim(size, c) {
         clear_all(columns, areas, head);
     } else {
-        clear_inner(columns, areas, size.width as usize, column, height, climb);
+        clear_inner(columns, areas, size.width as usize, column, agent);
     }
 }
 
@@ -306,17 +309,16 @@ pub(crate) fn clear_columns(
     columns: &Columns<'_>,
     areas: &mut [u8],
     size: Size,
-    height: u16,
-    climb: u16,
+    agent: Agent,
 )
     requires all_columns { size.width * size.height ≡ length columns.now.heads.now }
     requires held { Held columns.now.heads.now (slots_in columns.now areas.old) }
     ensures { (f : Field) → Holds columns.now.heads.now (slots_in columns.now areas.old) f
-        → Holds columns.now.heads.now (slots_in columns.now areas.new) (ledges size.width size.height height climb f) }
+        → Holds columns.now.heads.now (slots_in columns.now areas.new) (ledges size.width size.height agent.height agent.climb f) }
 {
     let mut c = Cell { x: 0, z: 0 };
     for _ in columns.heads {
-        clear_column(columns, areas, size, c, height, climb);
+        clear_column(columns, areas, size, c, agent);
         c = next_cell(size, c);
     }
 }

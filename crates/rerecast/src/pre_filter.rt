@@ -15,7 +15,7 @@ ghost use Rattle.rerecast.specs.Lent.{slots_in, contents_in};
 
 use crate::Refusal;
 use crate::admission::admit;
-use crate::ledges::clear_columns;
+use crate::ledges::{Agent, clear_columns};
 use crate::lent::Columns;
 use field::NONE;
 use grid::Grid;
@@ -171,7 +171,11 @@ pub fn filter_ledge_spans(
         heads: &heads[..size.columns()],
         ..columns
     };
-    clear_columns(&held, areas, size, walkable_height, walkable_climb);
+    let agent = Agent {
+        height: walkable_height,
+        climb: walkable_climb,
+    };
+    clear_columns(&held, areas, size, agent);
     Ok(())
 }
 

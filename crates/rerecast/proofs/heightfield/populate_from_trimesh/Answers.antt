@@ -1,20 +1,13 @@
 -- `populate_from_trimesh` meets its contract: the tests of a mesh, and past them its triangles and the filters.
-use mathlib.Core.List.{[]}
-use lib.ListN.{take}
 use Rattle.std.proofs.Common.{rules}
 use Rattle.std.proofs.lemmas.Result.{err_from_is_err_and}
 use Rattle.clip.specs.Work.{frame_of}
 use Rattle.grid.specs.Grid.{width, height}
-use Rattle.field.specs.Slots.{slots}
-use Rattle.field.specs.Field.{Held}
-use Rattle.field.specs.Store.{store, left}
 use Rattle.field.specs.Meshes.{mesh}
-use Rattle.field.specs.Populate.{populated, Populated}
+use Rattle.field.specs.Populate.{populated}
 use Rattle.rerecast.specs.Answer.{refusal_says}
-use Rattle.rerecast.specs.Lent.{slots_of}
-use Rattle.rerecast.proofs.GivenBack.{given-back}
-use Rattle.rerecast.proofs.MeshAdmitted.{mesh-relies, mesh-made}
-use Rattle.rerecast.proofs.Populated.{mesh-stopped, held-after, mesh-populated}
+use Rattle.rerecast.proofs.MeshAdmitted.{mesh-relies, mesh-left}
+use Rattle.rerecast.proofs.Populated.{mesh-stopped, mesh-held, mesh-populated}
 use Rattle.rerecast.proofs.heightfield.populate_from_trimesh.Goals as goal
 
 pub returns-in_err-size : goal.returns-in_err-size
@@ -33,23 +26,18 @@ pub returns-in_err-take_mesh : goal.returns-in_err-take_mesh
 returns-in_err-take_mesh c =
     let a = c.args in
     let m = mesh a.vertices.now a.indices.now a.triangle_areas.now in
-    let s = store a.heads.now (slots a.free.now a.floors.now a.ceilings.now a.areas.now a.nexts.now) a.marks.now in
     let p = err_from_is_err_and c.from_residual-in_err-take_mesh.result c.from_residual-in_err-take_mesh.ensures.1 in
     let r = c.in_err-take_mesh.field-0.0 in
-    let l = c.take_mesh.new in
     rw (p.1, p.2)
-    (given-back (λ t. Populated a.grid m a.walkable_height a.walkable_climb s (left (refusal_says r) (store l.heads t c.admit_mesh.new.marks))) l.slots (search rules)
-    (mesh-made _ _ _ _ _ _ c.in_ok-size.ensures (λ w h. populated (frame_of a.grid w h) m a.walkable_height a.walkable_climb) (refusal_says r) l.heads (slots_of l.slots)
-    (λ marks. mesh-stopped a.grid _ _ m a.walkable_height a.walkable_climb _ r _ (c.in_err-take_mesh.ensures.builds marks))))
+    (mesh-left _ _ _ _ _ _ c.in_ok-size.ensures (λ w h. populated (frame_of a.grid w h) m a.walkable_height a.walkable_climb) (refusal_says r) _ c.take_mesh.new.slots (search rules)
+    (λ marks. mesh-stopped a.grid _ _ m a.walkable_height a.walkable_climb _ r _ (c.in_err-take_mesh.ensures.builds marks)))
 
 pub filter_all-requires-clause-held : goal.filter_all-requires-clause-held
 filter_all-requires-clause-held c =
-    let l = c.take_mesh.new in
-    given-back (λ t. Held (take c.columns.result l.heads) t) l.slots (search rules) (held-after (c.in_ok-take_mesh.ensures.builds []).2 c.columns.ensures)
+    mesh-held _ _ _ _ _ _ c.in_ok-size.ensures c.args.walkable_climb _ c.take_mesh.new.slots (search rules) c.in_ok-take_mesh.ensures.builds c.columns.ensures
 
 pub returns : goal.returns
 returns c =
     let a = c.args in
-    let l = c.take_mesh.new in
-    mesh-populated _ _ _ _ _ _ c.in_ok-size.ensures a.walkable_height a.walkable_climb l.heads l.slots (search rules) c.columns.ensures c.filter_all.new.areas
-    c.in_ok-take_mesh.ensures.builds c.filter_all.ensures
+    mesh-populated _ _ _ _ _ _ c.in_ok-size.ensures a.walkable_climb _ c.take_mesh.new.slots (search rules) c.in_ok-take_mesh.ensures.builds c.columns.ensures
+    a.walkable_height c.filter_all.new.areas c.filter_all.ensures

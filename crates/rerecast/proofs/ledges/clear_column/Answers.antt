@@ -37,13 +37,13 @@ returns-then-on_rim c areas₀ f H ss k =
     let off = beside-off a.size.width a.size.height a.c.x a.c.z (omega arith) c.if-on_rim.ensures in
     (rw c.column_at-column.ensures.0 at c.clear_all.ensures) ss k
     ∙ ap (assign a.areas.now ss)
-    (ruled-agree _ _ (λ below s above. sym (firm-off a.height a.climb (spans f) (beside a.size.width a.size.height (a.c.x + a.c.z * a.size.width)) off s above)) [] _)
+    (ruled-agree _ _ (λ below s above. sym (firm-off a.agent.height a.agent.climb (spans f) (beside a.size.width a.size.height (a.c.x + a.c.z * a.size.width)) off s above)) [] _)
 
 pub returns-else-on_rim : goal.returns-else-on_rim
 returns-else-on_rim c areas₀ f H ss k =
     let a = c.args in
     let r = rim-not a.size.width a.size.height a.c.x a.c.z c.if-on_rim.ensures in
     let column = map (span_at (contents_in a.columns.now a.areas.now)) ss in
-    subst (λ (ks : List ℕ). c.clear_inner.new.areas ≡ assign a.areas.now ss (ruled (λ below s above. firm a.height a.climb (spans f) ks s above) [] column))
+    subst (λ (ks : List ℕ). c.clear_inner.new.areas ≡ assign a.areas.now ss (ruled (λ below s above. firm a.agent.height a.agent.climb (spans f) ks s above) [] column))
     (sym (beside-around a.size.width a.size.height a.c.x a.c.z r.0 r.1 r.2 r.3))
     ((rw c.column_at-column.ensures.0 at c.clear_inner.ensures) areas₀ f H ss k)

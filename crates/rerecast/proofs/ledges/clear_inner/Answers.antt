@@ -42,7 +42,7 @@ loop-at-init c =
     let a = c.args in
     let p = c.requires.inside in
     rw c.sides_of-sides.ensures (
-      λ areas₀ f H. ledging-start H a.width a.column a.height a.climb (omega arith) p.2 p.3 (omega arith) a.areas.now,
+      λ areas₀ f H. ledging-start H a.width a.column a.agent.height a.agent.climb (omega arith) p.2 p.3 (omega arith) a.areas.now,
       chain-reached (column_at c.requires.held.1.0 a.column) (column-chain c.requires.held.1.1 a.column (omega arith)),
     )
 

@@ -3,13 +3,9 @@ use Rattle.std.proofs.Common.{rules}
 use Rattle.std.proofs.lemmas.Result.{err_from_is_err_and}
 use Rattle.clip.specs.Work.{frame_of}
 use Rattle.grid.specs.Grid.{width, height}
-use Rattle.field.specs.Slots.{slots}
-use Rattle.field.specs.Store.{store, left}
-use Rattle.field.specs.Meshes.{mesh, rasterized, Rasterized}
+use Rattle.field.specs.Meshes.{mesh, rasterized}
 use Rattle.rerecast.specs.Answer.{said_of}
-use Rattle.rerecast.specs.Lent.{slots_of}
-use Rattle.rerecast.proofs.GivenBack.{given-back}
-use Rattle.rerecast.proofs.MeshAdmitted.{mesh-relies, mesh-made}
+use Rattle.rerecast.proofs.MeshAdmitted.{mesh-relies, mesh-left}
 use Rattle.rerecast.proofs.rasterize.rasterize_triangles.Goals as goal
 
 pub returns-in_err-size : goal.returns-in_err-size
@@ -26,9 +22,5 @@ take_mesh-requires c =
 pub returns : goal.returns
 returns c =
     let a = c.args in
-    let m = mesh a.vertices.now a.indices.now a.triangle_areas.now in
-    let s = store a.heads.now (slots a.free.now a.floors.now a.ceilings.now a.areas.now a.nexts.now) a.marks.now in
-    let said = said_of c.take_mesh.result in
-    let l = c.take_mesh.new in
-    given-back (λ t. Rasterized a.grid m a.threshold s (left said (store l.heads t c.admit_mesh.new.marks))) l.slots (search rules)
-    (mesh-made _ _ _ _ _ _ c.in_ok-size.ensures (λ w h. rasterized (frame_of a.grid w h) m a.threshold) said l.heads (slots_of l.slots) c.take_mesh.ensures.builds)
+    mesh-left _ _ _ _ _ _ c.in_ok-size.ensures (λ w h. rasterized (frame_of a.grid w h) (mesh a.vertices.now a.indices.now a.triangle_areas.now) a.threshold)
+    (said_of c.take_mesh.result) _ c.take_mesh.new.slots (search rules) c.take_mesh.ensures.builds
