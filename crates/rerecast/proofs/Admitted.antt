@@ -39,9 +39,7 @@ module _ (g : Grid) (size : Size) (says : grids.said_of (Ok size) ≡ grid_says 
   pub freshened : (heads : List ℕ) (t : Slots) (said : Said) (heads' : List ℕ) (t' : lent.Slots) {free : ℕ} {fl ce ar nx : List ℕ} → GivenBack t' free fl ce ar nx
       → Asks (Fits (size.width * size.height) heads t) (made (just 4) heads t) (IsFresh (size.width * size.height) heads t) (made said heads' (slots_of t'))
       → Freshened g heads t (made said heads' (slots free fl ce ar nx))
-  freshened heads t said heads' t' back A =
-      let k = its-size in
-      given-back (λ t'. Freshened g heads t (made said heads' t')) t' back (inr (k.0, rw (k.1.0, k.1.1) at A))
+  freshened heads t said heads' t' back A = let k = its-size in rw (given-back t' back) (inr (k.0, rw (k.1.0, k.1.1) at A))
 
 -- what a call may rely on past all of them
 pub call-ready : (g : Grid) (size : Size) (shortest : ℕ) (s : Store) (marks' : List ℕ) → AdmitsCall (Ok size) g shortest s marks' → (size.width * size.height ≤ length s.heads) × Held (take (size.width * size.height) s.heads) s.slots
@@ -53,6 +51,5 @@ pub added-offered : (g : Grid) (size : Size) (x z : ℕ) (new : Span) (th shorte
     → ((marks : List ℕ) → Offers size.width size.height x z new th (store s.heads s.slots marks) (left said (store heads' (slots_of t') (replicate (length s.slots.nexts) 0))))
     → Added g x z new th s (left said (store heads' (slots free fl ce ar nx) marks'))
 added-offered g size x z new th shortest s marks' heads' t' said back A O =
-    given-back (λ t. Added g x z new th s (left said (store heads' t marks'))) t' back
-    (admits-past left g s (Offers (width g) (height g) x z new th s) (left said (store heads' (slots_of t') marks')) A.0 A.1.1.fits.0 A.1.1.sound
-    (rw (A.1.1.zeros, ← A.1.0.0, ← A.1.0.1) (O s.marks)))
+    admits-past left g s (Offers (width g) (height g) x z new th s) (left said (store heads' _ marks')) A.0 A.1.1.fits.0 A.1.1.sound
+    (rw (given-back t' back, A.1.1.zeros, ← A.1.0.0, ← A.1.0.1) (O s.marks))

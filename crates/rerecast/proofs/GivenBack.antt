@@ -1,6 +1,5 @@
 -- What a call leaves in slices that it passed on in a struct: each is what the struct holds of it at the end.
 use Rattle.std.proofs.Common.{◌≡◌, ℕ, List}
-use Rattle.field.specs.Slots as model
 use Rattle.field.specs.Slots.{slots}
 use Rattle.field.specs.Compact.{result_of, rows}
 use Rattle.rerecast.specs.declared.lent.Slots.{Slots}
@@ -10,8 +9,8 @@ use Rattle.rerecast.specs.Lent.{slots_of, compact_of}
 abbrev pub GivenBack : Slots → ℕ → List ℕ → List ℕ → List ℕ → List ℕ → Type 0
 GivenBack t free fl ce ar nx = (free ≡ t.free.now) × (fl ≡ t.floors.now) × (ce ≡ t.ceilings.now) × (ar ≡ t.areas.now) × (nx ≡ t.nexts.now)
 
-pub given-back : (P : model.Slots → Type 0) (t : Slots) {free : ℕ} {fl ce ar nx : List ℕ} → GivenBack t free fl ce ar nx → P (slots_of t) → P (slots free fl ce ar nx)
-given-back P t e p = rw (e.0, e.1, e.2, e.3, e.4) p
+pub given-back : (t : Slots) {free : ℕ} {fl ce ar nx : List ℕ} → GivenBack t free fl ce ar nx → slots free fl ce ar nx ≡ slots_of t
+given-back t e = rw (e.0, e.1, e.2, e.3, e.4)
 
 -- the same of a compact result
 abbrev pub CompactBack : Compact → List ℕ → List ℕ → List ℕ → List ℕ → List ℕ → Type 0
