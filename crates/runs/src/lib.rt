@@ -84,16 +84,22 @@ pub struct Store<const COLUMNS: usize, const SLOTS: usize> {
 }
 
 impl<const COLUMNS: usize, const SLOTS: usize> Store<COLUMNS, SLOTS> {
-    // A fresh field, where the store has room for the grid's.
-    pub fn new(grid: Grid) -> Self {
-        let mut store = Store {
+    // No head and no free slot. Built where it will lie, since the heads of the widest grid take half of the stack.
+    #[inline(always)]
+    pub fn empty() -> Self {
+        Store {
             heads: [NONE; COLUMNS],
             free: NONE,
             floors: [0; SLOTS],
             ceilings: [0; SLOTS],
             areas: [0; SLOTS],
             nexts: [NONE; SLOTS],
-        };
+        }
+    }
+
+    // A fresh field, where the store has room for the grid's.
+    pub fn new(grid: Grid) -> Self {
+        let mut store = Self::empty();
         store.fresh(grid);
         store
     }
