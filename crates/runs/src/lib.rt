@@ -1,21 +1,48 @@
 #![tactic(auto)]
 // What the programs of runs share: the grids and fields that they lend, with a method for each of the library's calls, and what they print of a field.
+ghost use Rattle.std.specs.Prelude.{◌≡◌, [], ◌∷◌, replicate};
+ghost use Rattle.grid.specs.declared.Corner.{Corner};
+ghost use Rattle.grid.specs.Grid.{width, height};
+ghost use Rattle.field.specs.Store.{left};
+ghost use Rattle.field.specs.Calls.{made, Freshened, Added};
+ghost use Rattle.field.specs.Meshes.{single, Rasterized};
+ghost use Rattle.field.specs.Populate.{Populated};
+ghost use Rattle.field.specs.Filters.{low_obstacles, ledges, low_ceilings, Filtered};
+ghost use Rattle.field.specs.Compact.{outcome, Compacted};
+ghost use Rattle.rerecast.specs.Answer.{said_of};
+ghost use Rattle.replies.specs.Said.{Said};
+ghost use Rattle.runs.specs.Store.{slots_of, unchained, lent, mesh_of, result_of, all_with, IsOf};
+
 use field::{NONE, Span};
 use grid::{Corner, Grid};
 use rerecast::{Reply, compact_heightfield, heightfield, pre_filter, rasterize};
 use std::fmt;
 
-pub fn corner(x: f32, y: f32, z: f32) -> Corner {
+pub fn corner(x: f32, y: f32, z: f32) -> Corner
+    ensures { result ≡ record { x = x; y = y; z = z } }
+{
     Corner { x, y, z }
 }
 
+pub const ORIGIN: Corner = Corner {
+    x: 0.0,
+    y: 0.0,
+    z: 0.0,
+};
+
+pub const UNIT: f32 = 1.0;
+
 // A grid of unit cells, from the origin up to x, y and z.
-pub fn cells(x: f32, y: f32, z: f32) -> Grid {
+pub fn cells(x: f32, y: f32, z: f32) -> Grid
+    ensures least { result.min ≡ ORIGIN }
+    ensures greatest { result.max ≡ record { x = x; y = y; z = z } }
+    ensures unit { (result.cell_size ≡ UNIT) × (result.cell_height ≡ UNIT) }
+{
     Grid {
-        min: corner(0.0, 0.0, 0.0),
+        min: ORIGIN,
         max: corner(x, y, z),
-        cell_size: 1.0,
-        cell_height: 1.0,
+        cell_size: UNIT,
+        cell_height: UNIT,
     }
 }
 
@@ -39,7 +66,9 @@ pub struct Compact<const YS: usize, const WORDS: usize, const AREAS: usize> {
 
 impl<const YS: usize, const WORDS: usize, const AREAS: usize> Compact<YS, WORDS, AREAS> {
     // A number stands in every entry.
-    pub fn filled(with: u8) -> Self {
+    pub fn filled(with: u8) -> Self
+        ensures { result_of result ≡ all_with with 3 YS WORDS AREAS }
+    {
         let word = u32::from(with);
         Compact {
             cell_indices: [word; 3],
@@ -83,10 +112,30 @@ pub struct Store<const COLUMNS: usize, const SLOTS: usize> {
     pub nexts: [u32; SLOTS],
 }
 
+// A call that is lent all slices of a store.
+macro_rules! lend {
+    ($call:path, $store:ident, $grid:ident, $marks:ident, $($own:expr),+) => {
+        $call(
+            $grid,
+            &mut $store.heads,
+            &mut $store.free,
+            &mut $store.floors,
+            &mut $store.ceilings,
+            &mut $store.areas,
+            &mut $store.nexts,
+            $marks,
+            $($own),+
+        )
+    };
+}
+
 impl<const COLUMNS: usize, const SLOTS: usize> Store<COLUMNS, SLOTS> {
     // No head and no free slot. Built where it will lie, since the heads of the widest grid take half of the stack.
     #[inline(always)]
-    pub fn empty() -> Self {
+    pub fn empty() -> Self
+        ensures heads { result.heads ≡ replicate COLUMNS NONE }
+        ensures unchained { slots_of result ≡ unchained SLOTS }
+    {
         Store {
             heads: [NONE; COLUMNS],
             free: NONE,
@@ -98,13 +147,17 @@ impl<const COLUMNS: usize, const SLOTS: usize> Store<COLUMNS, SLOTS> {
     }
 
     // A fresh field, where the store has room for the grid's.
-    pub fn new(grid: Grid) -> Self {
+    pub fn new(grid: Grid) -> Self
+        ensures { (said : Said) × Freshened grid (replicate COLUMNS NONE) (unchained SLOTS) (made said result.heads (slots_of result)) }
+    {
         let mut store = Self::empty();
         store.fresh(grid);
         store
     }
 
-    pub fn fresh(&mut self, grid: Grid) -> Reply {
+    pub fn fresh(&mut self, grid: Grid) -> Reply
+        ensures { Freshened grid self.old.heads (slots_of self.old) (made (said_of result) self.new.heads (slots_of self.new)) }
+    {
         heightfield::fresh(
             grid,
             &mut self.heads,
@@ -124,20 +177,18 @@ impl<const COLUMNS: usize, const SLOTS: usize> Store<COLUMNS, SLOTS> {
         z: u32,
         new: Span,
         threshold: u16,
-    ) -> Reply {
-        heightfield::add_span(
+    ) -> Reply
+        ensures { Added grid x z new threshold (lent self.old marks.old) (left (said_of result) (lent self.new marks.new)) }
+    {
+        lend!(
+            heightfield::add_span,
+            self,
             grid,
-            &mut self.heads,
-            &mut self.free,
-            &mut self.floors,
-            &mut self.ceilings,
-            &mut self.areas,
-            &mut self.nexts,
             marks,
             x,
             z,
             new,
-            threshold,
+            threshold
         )
     }
 
@@ -147,20 +198,23 @@ impl<const COLUMNS: usize, const SLOTS: usize> Store<COLUMNS, SLOTS> {
         marks: &mut [u8],
         mesh: Mesh<'_>,
         threshold: u16,
-    ) -> Reply {
-        rasterize::rasterize_triangles(
+    ) -> Reply
+        ensures { Rasterized grid (mesh_of mesh.entry) threshold (lent self.old marks.old) (left (said_of result) (lent self.new marks.new)) }
+    {
+        let Mesh {
+            vertices,
+            indices,
+            areas,
+        } = mesh;
+        lend!(
+            rasterize::rasterize_triangles,
+            self,
             grid,
-            &mut self.heads,
-            &mut self.free,
-            &mut self.floors,
-            &mut self.ceilings,
-            &mut self.areas,
-            &mut self.nexts,
             marks,
-            mesh.vertices,
-            mesh.indices,
-            mesh.areas,
-            threshold,
+            vertices,
+            indices,
+            areas,
+            threshold
         )
     }
 
@@ -171,22 +225,21 @@ impl<const COLUMNS: usize, const SLOTS: usize> Store<COLUMNS, SLOTS> {
         corners: [Corner; 3],
         area: u8,
         threshold: u16,
-    ) -> Reply {
+    ) -> Reply
+        ensures { (a b c : Corner) → corners ≡ a ∷ b ∷ c ∷ []
+            → Rasterized grid (single a b c area) threshold (lent self.old marks.old) (left (said_of result) (lent self.new marks.new)) }
+    {
         let [a, b, c] = corners;
-        rasterize::rasterize_triangle(
+        lend!(
+            rasterize::rasterize_triangle,
+            self,
             grid,
-            &mut self.heads,
-            &mut self.free,
-            &mut self.floors,
-            &mut self.ceilings,
-            &mut self.areas,
-            &mut self.nexts,
             marks,
             a,
             b,
             c,
             area,
-            threshold,
+            threshold
         )
     }
 
@@ -197,21 +250,24 @@ impl<const COLUMNS: usize, const SLOTS: usize> Store<COLUMNS, SLOTS> {
         mesh: Mesh<'_>,
         walkable_height: u16,
         walkable_climb: u16,
-    ) -> Reply {
-        heightfield::populate_from_trimesh(
+    ) -> Reply
+        ensures { Populated grid (mesh_of mesh.entry) walkable_height walkable_climb (lent self.old marks.old) (left (said_of result) (lent self.new marks.new)) }
+    {
+        let Mesh {
+            vertices,
+            indices,
+            areas,
+        } = mesh;
+        lend!(
+            heightfield::populate_from_trimesh,
+            self,
             grid,
-            &mut self.heads,
-            &mut self.free,
-            &mut self.floors,
-            &mut self.ceilings,
-            &mut self.areas,
-            &mut self.nexts,
             marks,
-            mesh.vertices,
-            mesh.indices,
-            mesh.areas,
+            vertices,
+            indices,
+            areas,
             walkable_height,
-            walkable_climb,
+            walkable_climb
         )
     }
 
@@ -220,17 +276,15 @@ impl<const COLUMNS: usize, const SLOTS: usize> Store<COLUMNS, SLOTS> {
         grid: Grid,
         marks: &mut [u8],
         walkable_climb: u16,
-    ) -> Reply {
-        pre_filter::filter_low_hanging_walkable_obstacles(
+    ) -> Reply
+        ensures { Filtered grid (low_obstacles walkable_climb) (lent self.old marks.old) (left (said_of result) (lent self.new marks.new)) }
+    {
+        lend!(
+            pre_filter::filter_low_hanging_walkable_obstacles,
+            self,
             grid,
-            &self.heads,
-            &self.free,
-            &self.floors,
-            &self.ceilings,
-            &mut self.areas,
-            &self.nexts,
             marks,
-            walkable_climb,
+            walkable_climb
         )
     }
 
@@ -240,18 +294,17 @@ impl<const COLUMNS: usize, const SLOTS: usize> Store<COLUMNS, SLOTS> {
         marks: &mut [u8],
         walkable_height: u16,
         walkable_climb: u16,
-    ) -> Reply {
-        pre_filter::filter_ledge_spans(
+    ) -> Reply
+        ensures { Filtered grid (ledges (width grid) (height grid) walkable_height walkable_climb) (lent self.old marks.old)
+            (left (said_of result) (lent self.new marks.new)) }
+    {
+        lend!(
+            pre_filter::filter_ledge_spans,
+            self,
             grid,
-            &self.heads,
-            &self.free,
-            &self.floors,
-            &self.ceilings,
-            &mut self.areas,
-            &self.nexts,
             marks,
             walkable_height,
-            walkable_climb,
+            walkable_climb
         )
     }
 
@@ -260,17 +313,15 @@ impl<const COLUMNS: usize, const SLOTS: usize> Store<COLUMNS, SLOTS> {
         grid: Grid,
         marks: &mut [u8],
         walkable_height: u16,
-    ) -> Reply {
-        pre_filter::filter_walkable_low_height_spans(
+    ) -> Reply
+        ensures { Filtered grid (low_ceilings walkable_height) (lent self.old marks.old) (left (said_of result) (lent self.new marks.new)) }
+    {
+        lend!(
+            pre_filter::filter_walkable_low_height_spans,
+            self,
             grid,
-            &self.heads,
-            &self.free,
-            &self.floors,
-            &self.ceilings,
-            &mut self.areas,
-            &self.nexts,
             marks,
-            walkable_height,
+            walkable_height
         )
     }
 
@@ -281,7 +332,10 @@ impl<const COLUMNS: usize, const SLOTS: usize> Store<COLUMNS, SLOTS> {
         compact: &mut Compact<YS, WORDS, AREAS>,
         walkable_height: u16,
         walkable_climb: u16,
-    ) -> Reply {
+    ) -> Reply
+        ensures { Compacted grid walkable_height walkable_climb (lent self.now marks.old) (result_of compact.old)
+            (outcome (said_of result) (lent self.now marks.new) (result_of compact.new)) }
+    {
         compact_heightfield::into_compact(
             grid,
             &self.heads,
@@ -302,7 +356,10 @@ impl<const COLUMNS: usize, const SLOTS: usize> Store<COLUMNS, SLOTS> {
     }
 
     // The spans from a head up.
-    pub fn chain(&self, head: u32) -> Chain<'_> {
+    pub fn chain(&self, head: u32) -> Chain<'_>
+        ensures from { result.head ≡ head }
+        ensures along { IsOf self.now result }
+    {
         Chain {
             floors: &self.floors,
             ceilings: &self.ceilings,
@@ -316,11 +373,11 @@ impl<const COLUMNS: usize, const SLOTS: usize> Store<COLUMNS, SLOTS> {
 // What is left of a chain. A damaged one may run in a circle and have no end.
 #[derive(Clone, Copy)]
 pub struct Chain<'a> {
-    floors: &'a [u16],
-    ceilings: &'a [u16],
-    areas: &'a [u8],
-    nexts: &'a [u32],
-    head: u32,
+    pub floors: &'a [u16],
+    pub ceilings: &'a [u16],
+    pub areas: &'a [u8],
+    pub nexts: &'a [u32],
+    pub head: u32,
 }
 
 impl Iterator for Chain<'_> {
