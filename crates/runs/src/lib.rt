@@ -112,10 +112,10 @@ pub struct Store<const COLUMNS: usize, const SLOTS: usize> {
     pub nexts: [u32; SLOTS],
 }
 
-// A call that is lent all slices of a store.
+// A call that is lent a store, slice by slice.
 macro_rules! lend {
-    ($call:path, $store:ident, $grid:ident, $marks:ident, $($own:expr),+) => {
-        $call(
+    ($module:ident::$call:ident($store:ident, $grid:ident, $marks:ident, $($own:expr),+)) => {
+        $module::$call(
             $grid,
             &mut $store.heads,
             &mut $store.free,
@@ -180,16 +180,7 @@ impl<const COLUMNS: usize, const SLOTS: usize> Store<COLUMNS, SLOTS> {
     ) -> Reply
         ensures { Added grid x z new threshold (lent self.old marks.old) (left (said_of result) (lent self.new marks.new)) }
     {
-        lend!(
-            heightfield::add_span,
-            self,
-            grid,
-            marks,
-            x,
-            z,
-            new,
-            threshold
-        )
+        lend!(heightfield::add_span(self, grid, marks, x, z, new, threshold))
     }
 
     pub fn rasterize_triangles(
@@ -206,16 +197,9 @@ impl<const COLUMNS: usize, const SLOTS: usize> Store<COLUMNS, SLOTS> {
             indices,
             areas,
         } = mesh;
-        lend!(
-            rasterize::rasterize_triangles,
-            self,
-            grid,
-            marks,
-            vertices,
-            indices,
-            areas,
-            threshold
-        )
+        lend!(rasterize::rasterize_triangles(
+            self, grid, marks, vertices, indices, areas, threshold
+        ))
     }
 
     pub fn rasterize_triangle(
@@ -230,17 +214,7 @@ impl<const COLUMNS: usize, const SLOTS: usize> Store<COLUMNS, SLOTS> {
             → Rasterized grid (single a b c area) threshold (lent self.old marks.old) (left (said_of result) (lent self.new marks.new)) }
     {
         let [a, b, c] = corners;
-        lend!(
-            rasterize::rasterize_triangle,
-            self,
-            grid,
-            marks,
-            a,
-            b,
-            c,
-            area,
-            threshold
-        )
+        lend!(rasterize::rasterize_triangle(self, grid, marks, a, b, c, area, threshold))
     }
 
     pub fn populate_from_trimesh(
@@ -258,8 +232,7 @@ impl<const COLUMNS: usize, const SLOTS: usize> Store<COLUMNS, SLOTS> {
             indices,
             areas,
         } = mesh;
-        lend!(
-            heightfield::populate_from_trimesh,
+        lend!(heightfield::populate_from_trimesh(
             self,
             grid,
             marks,
@@ -268,7 +241,7 @@ impl<const COLUMNS: usize, const SLOTS: usize> Store<COLUMNS, SLOTS> {
             areas,
             walkable_height,
             walkable_climb
-        )
+        ))
     }
 
     pub fn filter_low_hanging_walkable_obstacles(
@@ -279,13 +252,7 @@ impl<const COLUMNS: usize, const SLOTS: usize> Store<COLUMNS, SLOTS> {
     ) -> Reply
         ensures { Filtered grid (low_obstacles walkable_climb) (lent self.old marks.old) (left (said_of result) (lent self.new marks.new)) }
     {
-        lend!(
-            pre_filter::filter_low_hanging_walkable_obstacles,
-            self,
-            grid,
-            marks,
-            walkable_climb
-        )
+        lend!(pre_filter::filter_low_hanging_walkable_obstacles(self, grid, marks, walkable_climb))
     }
 
     pub fn filter_ledge_spans(
@@ -298,14 +265,7 @@ impl<const COLUMNS: usize, const SLOTS: usize> Store<COLUMNS, SLOTS> {
         ensures { Filtered grid (ledges (width grid) (height grid) walkable_height walkable_climb) (lent self.old marks.old)
             (left (said_of result) (lent self.new marks.new)) }
     {
-        lend!(
-            pre_filter::filter_ledge_spans,
-            self,
-            grid,
-            marks,
-            walkable_height,
-            walkable_climb
-        )
+        lend!(pre_filter::filter_ledge_spans(self, grid, marks, walkable_height, walkable_climb))
     }
 
     pub fn filter_walkable_low_height_spans(
@@ -316,13 +276,7 @@ impl<const COLUMNS: usize, const SLOTS: usize> Store<COLUMNS, SLOTS> {
     ) -> Reply
         ensures { Filtered grid (low_ceilings walkable_height) (lent self.old marks.old) (left (said_of result) (lent self.new marks.new)) }
     {
-        lend!(
-            pre_filter::filter_walkable_low_height_spans,
-            self,
-            grid,
-            marks,
-            walkable_height
-        )
+        lend!(pre_filter::filter_walkable_low_height_spans(self, grid, marks, walkable_height))
     }
 
     pub fn into_compact<const YS: usize, const WORDS: usize, const AREAS: usize>(
