@@ -112,17 +112,7 @@ le-flips nan y q = sym (nan-le y)
 le-flips (inf s) y q = numbers-flip (inf s) y refl q
 le-flips (fin s m e) y q = numbers-flip (fin s m e) y refl q
 
--- at most -1, and not above -1 where it is below 0
+-- at most -1
 pub minus-one-flips : (x : Float) → le x (neg (most 0)) ≡ le (most 0) (neg x)
 unfolding is_nan
 minus-one-flips x = le-flips x (most 0) refl
-
-below-number : (x : Float) → lt x nought ≡ true → is_nan x ≡ false
-unfolding is_nan lt
-below-number nan a = absurd (true≢false (sym a))
-below-number (inf s) a = refl
-below-number (fin s m e) a = refl
-
-pub at_most_minus_one : (x : Float) → lt x nought ≡ true → lt (neg (most 0)) x ≡ false → le (most 0) (neg x) ≡ true
-unfolding is_nan
-at_most_minus_one x a b = le_total (most 0) (neg x) refl (neg-number x ∙ below-number x a) ∙ ap not (sym (lt-flips (most 0) x) ∙ b)
