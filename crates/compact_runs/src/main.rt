@@ -1,11 +1,11 @@
 #![tactic(auto)]
 // Runs of compacting at its limits: a column of 255 floors and one of 256, links to the highest layers, slices that are just long enough, and an agent
 // that is too tall for any link. Two columns lie side by side, and the field is made by the library's own calls.
-use compact_span::{CompactSpan, Con, Link};
+use compact_span::{CompactSpan, NoLink};
 use field::Span;
 use grid::Grid;
-use rerecast::Reply;
-use runs::{Compact, Store, cells};
+use rerecast::Refusal;
+use runs::{Compact, Store, cells, number};
 use std::{fmt, io};
 
 // ---- the field
@@ -29,7 +29,7 @@ fn add_floor(columns: &mut Columns, x: u32, layer: u8) {
         ceiling: floor + 2,
         area: 9,
     };
-    columns.add_span(two_columns(), &mut [0; 256], x, 0, span, 0);
+    let _ = columns.add_span(two_columns(), &mut [0; 256], x, 0, span, 0);
 }
 
 // A fresh field, with a stack of floors in the second column.
@@ -46,7 +46,7 @@ fn into_compact<const YS: usize, const WORDS: usize, const AREAS: usize>(
     columns: &Columns,
     compact: &mut Compact<YS, WORDS, AREAS>,
     tall: u16,
-) -> Reply {
+) -> Result<f32, Refusal> {
     columns.into_compact(two_columns(), &mut [0; 256], compact, tall, 0)
 }
 
@@ -55,8 +55,8 @@ fn into_compact<const YS: usize, const WORDS: usize, const AREAS: usize>(
 // The reply, and the entries of both cells and of the one past them.
 fn try_crowd(rt: &impl Print, floors: u16, columns: &Columns) -> io::Result<()> {
     let mut compact = Compact::<256, 256, 256>::filled(7);
-    let reply = into_compact(columns, &mut compact, 5);
-    print!(rt; "{floors:8}{:6}", reply.number())?;
+    let answer = into_compact(columns, &mut compact, 5);
+    print!(rt; "{floors:8}{:6}", number(answer))?;
     for count in compact.cell_counts {
         print!(rt; "{count:6}")?;
     }
@@ -77,21 +77,15 @@ fn crowded_columns(rt: &impl Print) -> io::Result<()> {
 
 // The link of a word in a direction: '-' for one that leads nowhere, '?' for a direction that there is not.
 #[derive(Clone, Copy)]
-struct Linked {
-    word: u32,
-    dir: u8,
-}
+struct Linked(u32, u8);
 
 impl fmt::Display for Linked {
     fn fmt<W: fmt::Write>(&self, f: &mut fmt::Formatter<W>) -> fmt::Result {
-        let span = CompactSpan {
-            y: 0,
-            data: self.word,
-        };
-        match span.con(self.dir) {
-            Con::Link(Link::To(layer)) => write!(f, "{layer:6}"),
-            Con::Link(Link::Empty) => write!(f, "{:>6}", '-'),
-            Con::Refused => write!(f, "{:>6}", '?'),
+        let Linked(data, dir) = *self;
+        match (CompactSpan { y: 0, data }).con(dir) {
+            Ok(Some(layer)) => write!(f, "{layer:6}"),
+            Ok(None) => write!(f, "{:>6}", '-'),
+            Err(NoLink) => write!(f, "{:>6}", '?'),
         }
     }
 }
@@ -101,31 +95,19 @@ fn try_level(rt: &impl Print, layers: u8, level: u8, tall: u16) -> io::Result<()
     let mut columns = stack(layers);
     add_floor(&mut columns, 0, level);
     let mut compact = Compact::<256, 256, 256>::filled(7);
-    let reply = into_compact(&columns, &mut compact, tall);
-    print!(rt; "{layers:6}{level:6}{tall:6}{:6}", reply.number())?;
-    match reply {
-        Reply::Layers(layer, _) => print!(rt; "{layer:6}")?,
+    let answer = into_compact(&columns, &mut compact, tall);
+    print!(rt; "{layers:6}{level:6}{tall:6}{:6}", number(answer))?;
+    match answer {
+        Err(Refusal::Layers(layer, _)) => print!(rt; "{layer:6}")?,
         _ => print!(rt; "{:>6}", '-')?,
     }
-    print!(rt;
-        "{}",
-        Linked {
-            word: compact.words[0],
-            dir: 2
-        }
-    )?;
+    print!(rt; "{}", Linked(compact.words[0], 2))?;
     // behind the one floor of the first column
     if let Some(word) = compact.words.get(usize::from(level) + 1) {
-        print!(rt;
-            "{}",
-            Linked {
-                word: *word,
-                dir: 0
-            }
-        )?;
+        print!(rt; "{}", Linked(*word, 0))?;
     }
-    match reply {
-        Reply::Compacted(top) | Reply::Layers(_, top) => println!(rt; "   {top}"),
+    match answer {
+        Ok(top) | Err(Refusal::Layers(_, top)) => println!(rt; "   {top}"),
         _ => println!(rt; "   none"),
     }
 }
@@ -158,13 +140,13 @@ fn try_slices<const YS: usize, const WORDS: usize, const AREAS: usize>(
 ) -> io::Result<()> {
     let mut columns = stack(3);
     add_floor(&mut columns, 0, 1);
-    let reply = into_compact(&columns, &mut compact, 5);
-    println!(rt; "  {name}: reply {}", reply.number())?;
+    let answer = into_compact(&columns, &mut compact, 5);
+    println!(rt; "  {name}: reply {}", number(answer))?;
     let spans = compact.ys.iter().zip(&compact.words);
     for ((y, word), area) in spans.zip(&compact.areas) {
         print!(rt; "    {y:6}{:6}", CompactSpan::height_in(*word))?;
         for dir in 0..4 {
-            print!(rt; "{}", Linked { word: *word, dir })?;
+            print!(rt; "{}", Linked(*word, dir))?;
         }
         println!(rt; "{area:6}")?;
     }

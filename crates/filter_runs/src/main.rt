@@ -2,8 +2,8 @@
 // The rules' examples of the filters, run: the reply, and the areas that are left.
 use field::NONE;
 use grid::Grid;
-use rerecast::Reply;
-use runs::{Store, cells};
+use rerecast::Refusal;
+use runs::{Store, cells, number};
 use std::io;
 
 // ---- ledges
@@ -21,8 +21,8 @@ const LEVEL: Store<9, 10> = Store {
 // A run's name, its reply, the free slot's area, and the areas as they lie on the grid, x from left to right.
 fn try_ledges(rt: &impl Print, name: &str, mut store: Store<9, 10>, climb: u16) -> io::Result<()> {
     let mut marks = [1; 10];
-    let reply = store.filter_ledge_spans(cells(3.0, 64.0, 3.0), &mut marks, 2, climb);
-    let number = reply.number();
+    let answer = store.filter_ledge_spans(cells(3.0, 64.0, 3.0), &mut marks, 2, climb);
+    let number = number(answer);
     let free = store.areas[9];
     println!(rt;
         "  {name}: reply {number}, first mark {}, free slot's area {free}",
@@ -71,11 +71,16 @@ fn one_cell() -> Grid {
     cells(1.0, 64.0, 1.0)
 }
 
-fn areas(rt: &impl Print, name: &str, reply: Reply, column: Column) -> io::Result<()> {
+fn areas(
+    rt: &impl Print,
+    name: &str,
+    answer: Result<(), Refusal>,
+    column: Column,
+) -> io::Result<()> {
     let [low, middle, high] = column.areas;
     println!(rt;
         "  {name}: reply {}, areas{low:4}{middle:4}{high:4}",
-        reply.number()
+        number(answer)
     )
 }
 
@@ -90,8 +95,8 @@ fn obstacles(rt: &impl Print) -> io::Result<()> {
             areas: [5, 0, 0],
             nexts: [1, 2, NONE],
         };
-        let reply = column.filter_low_hanging_walkable_obstacles(one_cell(), &mut [1; 3], climb);
-        areas(rt, name, reply, column)?;
+        let answer = column.filter_low_hanging_walkable_obstacles(one_cell(), &mut [1; 3], climb);
+        areas(rt, name, answer, column)?;
     }
     Ok(())
 }
@@ -106,8 +111,8 @@ fn try_ceilings(rt: &impl Print, name: &str, marks: &mut [u8], height: u16) -> i
         areas: [7, 8, 9],
         nexts: [1, 2, NONE],
     };
-    let reply = column.filter_walkable_low_height_spans(one_cell(), marks, height);
-    areas(rt, name, reply, column)
+    let answer = column.filter_walkable_low_height_spans(one_cell(), marks, height);
+    areas(rt, name, answer, column)
 }
 
 fn ceilings(rt: &impl Print) -> io::Result<()> {

@@ -1,9 +1,9 @@
 #![tactic(auto)]
 // Meshes run: what the rules say of triangles at the grid's edge, of a full store, of numbers that are none. Each run has its reply, the place of a stop,
 // and the columns that are left.
-use grid::{Grid, GridReply};
-use rerecast::Reply;
-use runs::{Mesh, Store, cells, corner};
+use grid::Grid;
+use rerecast::Refusal;
+use runs::{Mesh, Store, cells, corner, number};
 use std::io;
 
 // Four by four cells of size 1, 8 high.
@@ -16,21 +16,15 @@ fn show<const COLUMNS: usize, const SLOTS: usize>(
     rt: &impl Print,
     name: &str,
     grid: Grid,
-    reply: Reply,
+    answer: Result<(), Refusal>,
     store: &Store<COLUMNS, SLOTS>,
 ) -> io::Result<()> {
-    print!(rt; "{name}: reply {}", reply.number())?;
-    if let Reply::NoSlotAt(triangle, made)
-    | Reply::EighthVertex(triangle, made)
-    | Reply::TooHigh(triangle, made) = reply
-    {
+    print!(rt; "{name}: reply {}", number(answer))?;
+    if let Err(Refusal::Stopped(_, triangle, made)) = answer {
         print!(rt; ", triangle {triangle}, after {made} of its insertions")?;
     }
     println!(rt; "")?;
-    let width = match grid::check(grid) {
-        GridReply::Fine(width, _) => width.max(1) as usize,
-        _ => 1,
-    };
+    let width = grid::check(grid).map_or(1, |size| size.width).max(1) as usize;
     for (i, head) in store.heads.iter().enumerate() {
         if (*head as usize) < SLOTS {
             println!(rt; "  {} {}:{}", i % width, i / width, store.chain(*head))?;
@@ -46,15 +40,15 @@ type Roomy = Store<32, 32>;
 
 fn try_mesh(rt: &impl Print, name: &str, mesh: Mesh<'_>) -> io::Result<()> {
     let mut store = Roomy::new(hall());
-    let reply = store.rasterize_triangles(hall(), &mut [1; 32], mesh, 1);
-    show(rt, name, hall(), reply, &store)
+    let answer = store.rasterize_triangles(hall(), &mut [1; 32], mesh, 1);
+    show(rt, name, hall(), answer, &store)
 }
 
 // The same into four slots, and every slot shown with its next.
 fn try_full(rt: &impl Print, name: &str, mesh: Mesh<'_>) -> io::Result<()> {
     let mut store = Store::<16, 4>::new(hall());
-    let reply = store.rasterize_triangles(hall(), &mut [1; 4], mesh, 1);
-    show(rt, name, hall(), reply, &store)?;
+    let answer = store.rasterize_triangles(hall(), &mut [1; 4], mesh, 1);
+    show(rt, name, hall(), answer, &store)?;
     println!(rt; "  free {}", store.free)?;
     for i in 0..4 {
         if let Some(slot) = store.chain(i).next() {
@@ -77,8 +71,8 @@ fn full_stores(rt: &impl Print) -> io::Result<()> {
     try_full(rt, "two triangles, four slots", mesh)?;
     try_mesh(rt, "the same, 32 slots", mesh)?;
     let mut store = Roomy::new(hall());
-    let reply = store.populate_from_trimesh(hall(), &mut [1; 32], mesh, 2, 1);
-    show(rt, "the same, and the filters", hall(), reply, &store)
+    let answer = store.populate_from_trimesh(hall(), &mut [1; 32], mesh, 2, 1);
+    show(rt, "the same, and the filters", hall(), answer, &store)
 }
 
 fn empty_meshes(rt: &impl Print) -> io::Result<()> {
@@ -160,8 +154,8 @@ fn slivers(rt: &impl Print) -> io::Result<()> {
         ),
     ] {
         let mut store = Roomy::new(grid);
-        let reply = store.rasterize_triangle(grid, &mut [1; 32], corners, 255, 1);
-        show(rt, name, grid, reply, &store)?;
+        let answer = store.rasterize_triangle(grid, &mut [1; 32], corners, 255, 1);
+        show(rt, name, grid, answer, &store)?;
     }
     Ok(())
 }
@@ -175,9 +169,9 @@ fn widest(rt: &impl Print) -> io::Result<()> {
         corner(4095.5, 2.5, 252.5),
     ];
     let mut store = Store::<1048576, 16>::empty();
-    store.fresh(grid);
-    let reply = store.rasterize_triangle(grid, &mut [1; 16], corners, 255, 1);
-    show(rt, "4,096 by 256 cells", grid, reply, &store)
+    let _ = store.fresh(grid);
+    let answer = store.rasterize_triangle(grid, &mut [1; 16], corners, 255, 1);
+    show(rt, "4,096 by 256 cells", grid, answer, &store)
 }
 
 fn main(rt: HostRuntime) -> io::Result<()> {

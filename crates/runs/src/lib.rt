@@ -1,6 +1,6 @@
 #![tactic(auto)]
 // What the programs of runs share: the grids and fields that they lend, with a method for each of the library's calls, and what they print of a field.
-ghost use Rattle.std.specs.Prelude.{◌≡◌, [], ◌∷◌, replicate};
+ghost use Rattle.std.specs.Prelude.{◌≡◌, [], ◌∷◌, replicate, MatchResult};
 ghost use Rattle.grid.specs.declared.Corner.{Corner};
 ghost use Rattle.grid.specs.Grid.{width, height};
 ghost use Rattle.field.specs.Store.{left};
@@ -9,14 +9,24 @@ ghost use Rattle.field.specs.Meshes.{single, Rasterized};
 ghost use Rattle.field.specs.Populate.{Populated};
 ghost use Rattle.field.specs.Filters.{low_obstacles, ledges, low_ceilings, Filtered};
 ghost use Rattle.field.specs.Compact.{outcome, Compacted};
-ghost use Rattle.rerecast.specs.Answer.{said_of};
+ghost use Rattle.rerecast.specs.Answer.{refusal_says, said_of, told_of};
 ghost use Rattle.replies.specs.Said.{Said};
 ghost use Rattle.runs.specs.Store.{slots_of, unchained, lent, mesh_of, result_of, all_with, IsOf};
 
 use field::{NONE, Span};
 use grid::{Corner, Grid};
-use rerecast::{Reply, compact_heightfield, heightfield, pre_filter, rasterize};
+use rerecast::{Refusal, compact_heightfield, heightfield, pre_filter, rasterize};
 use std::fmt;
+
+// The number that the rules have for an answer.
+pub fn number<T: Drop>(answer: Result<T, Refusal>) -> u32
+    ensures { MatchResult answer (λ _. result ≡ 0) (λ r. result ≡ (refusal_says r).number) }
+{
+    match answer {
+        Ok(_) => 0,
+        Err(refusal) => refusal.number(),
+    }
+}
 
 pub fn corner(x: f32, y: f32, z: f32) -> Corner
     ensures { result ≡ record { x = x; y = y; z = z } }
@@ -151,11 +161,11 @@ impl<const COLUMNS: usize, const SLOTS: usize> Store<COLUMNS, SLOTS> {
         ensures { (said : Said) × Freshened grid (replicate COLUMNS NONE) (unchained SLOTS) (made said result.heads (slots_of result)) }
     {
         let mut store = Self::empty();
-        store.fresh(grid);
+        let _ = store.fresh(grid);
         store
     }
 
-    pub fn fresh(&mut self, grid: Grid) -> Reply
+    pub fn fresh(&mut self, grid: Grid) -> Result<(), Refusal>
         ensures { Freshened grid self.old.heads (slots_of self.old) (made (said_of result) self.new.heads (slots_of self.new)) }
     {
         heightfield::fresh(
@@ -177,7 +187,7 @@ impl<const COLUMNS: usize, const SLOTS: usize> Store<COLUMNS, SLOTS> {
         z: u32,
         new: Span,
         threshold: u16,
-    ) -> Reply
+    ) -> Result<(), Refusal>
         ensures { Added grid x z new threshold (lent self.old marks.old) (left (said_of result) (lent self.new marks.new)) }
     {
         lend!(heightfield::add_span(self, grid, marks, x, z, new, threshold))
@@ -189,7 +199,7 @@ impl<const COLUMNS: usize, const SLOTS: usize> Store<COLUMNS, SLOTS> {
         marks: &mut [u8],
         mesh: Mesh<'_>,
         threshold: u16,
-    ) -> Reply
+    ) -> Result<(), Refusal>
         ensures { Rasterized grid (mesh_of mesh.entry) threshold (lent self.old marks.old) (left (said_of result) (lent self.new marks.new)) }
     {
         let Mesh {
@@ -209,7 +219,7 @@ impl<const COLUMNS: usize, const SLOTS: usize> Store<COLUMNS, SLOTS> {
         corners: [Corner; 3],
         area: u8,
         threshold: u16,
-    ) -> Reply
+    ) -> Result<(), Refusal>
         ensures { (a b c : Corner) → corners ≡ a ∷ b ∷ c ∷ []
             → Rasterized grid (single a b c area) threshold (lent self.old marks.old) (left (said_of result) (lent self.new marks.new)) }
     {
@@ -224,7 +234,7 @@ impl<const COLUMNS: usize, const SLOTS: usize> Store<COLUMNS, SLOTS> {
         mesh: Mesh<'_>,
         walkable_height: u16,
         walkable_climb: u16,
-    ) -> Reply
+    ) -> Result<(), Refusal>
         ensures { Populated grid (mesh_of mesh.entry) walkable_height walkable_climb (lent self.old marks.old) (left (said_of result) (lent self.new marks.new)) }
     {
         let Mesh {
@@ -249,7 +259,7 @@ impl<const COLUMNS: usize, const SLOTS: usize> Store<COLUMNS, SLOTS> {
         grid: Grid,
         marks: &mut [u8],
         walkable_climb: u16,
-    ) -> Reply
+    ) -> Result<(), Refusal>
         ensures { Filtered grid (low_obstacles walkable_climb) (lent self.old marks.old) (left (said_of result) (lent self.new marks.new)) }
     {
         lend!(pre_filter::filter_low_hanging_walkable_obstacles(self, grid, marks, walkable_climb))
@@ -261,7 +271,7 @@ impl<const COLUMNS: usize, const SLOTS: usize> Store<COLUMNS, SLOTS> {
         marks: &mut [u8],
         walkable_height: u16,
         walkable_climb: u16,
-    ) -> Reply
+    ) -> Result<(), Refusal>
         ensures { Filtered grid (ledges (width grid) (height grid) walkable_height walkable_climb) (lent self.old marks.old)
             (left (said_of result) (lent self.new marks.new)) }
     {
@@ -273,7 +283,7 @@ impl<const COLUMNS: usize, const SLOTS: usize> Store<COLUMNS, SLOTS> {
         grid: Grid,
         marks: &mut [u8],
         walkable_height: u16,
-    ) -> Reply
+    ) -> Result<(), Refusal>
         ensures { Filtered grid (low_ceilings walkable_height) (lent self.old marks.old) (left (said_of result) (lent self.new marks.new)) }
     {
         lend!(pre_filter::filter_walkable_low_height_spans(self, grid, marks, walkable_height))
@@ -286,9 +296,9 @@ impl<const COLUMNS: usize, const SLOTS: usize> Store<COLUMNS, SLOTS> {
         compact: &mut Compact<YS, WORDS, AREAS>,
         walkable_height: u16,
         walkable_climb: u16,
-    ) -> Reply
+    ) -> Result<f32, Refusal>
         ensures { Compacted grid walkable_height walkable_climb (lent self.now marks.old) (result_of compact.old)
-            (outcome (said_of result) (lent self.now marks.new) (result_of compact.new)) }
+            (outcome (told_of result) (lent self.now marks.new) (result_of compact.new)) }
     {
         compact_heightfield::into_compact(
             grid,

@@ -3,7 +3,7 @@
 // fields damaged in every way. Each line has the call, the number of its reply, and what is left.
 use field::{NONE, Span};
 use grid::Grid;
-use runs::{Store, cells};
+use runs::{Store, cells, number};
 use std::io;
 
 // Two cells by one.
@@ -42,7 +42,7 @@ fn line<const SLOTS: usize>(
 ) -> io::Result<()> {
     let before = *store;
     let mut marks = [1u8; 4];
-    let reply = match call {
+    let answer = match call {
         Call::Fresh(grid) => store.fresh(grid),
         Call::Add(x, z, floor, ceiling) => {
             let span = Span {
@@ -53,7 +53,7 @@ fn line<const SLOTS: usize>(
             store.add_span(two_cells(), &mut marks[..SLOTS.min(4)], x, z, span, 1)
         }
     };
-    print!(rt; "  {name:<32}{}", reply.number())?;
+    print!(rt; "  {name:<32}{}", number(answer))?;
     if *store == before {
         print!(rt; "  nothing changed")?;
     } else {

@@ -3,8 +3,8 @@
 use compact_span::CompactSpan;
 use field::{NONE, Span};
 use grid::Grid;
-use rerecast::Reply;
-use runs::{Compact, Store, cells, corner};
+use rerecast::Refusal;
+use runs::{Compact, Store, cells, corner, number};
 use std::fmt::Display;
 use std::io;
 
@@ -26,7 +26,7 @@ fn column_row<const SLOTS: usize>(
     rt: &impl Print,
     name: &str,
     expected: &str,
-    reply: Reply,
+    answer: Result<(), Refusal>,
     column: &Column<SLOTS>,
 ) -> io::Result<()> {
     let chain = column.chain(column.heads[0]);
@@ -34,7 +34,7 @@ fn column_row<const SLOTS: usize>(
         rt,
         name,
         expected,
-        format_args!("{}:{chain}", reply.number()),
+        format_args!("{}:{chain}", number(answer)),
     )
 }
 
@@ -47,13 +47,16 @@ fn span(floor: u16, ceiling: u16, area: u8) -> Span {
 }
 
 // A fresh column that is offered spans one after another, and the last reply.
-fn offered<const SLOTS: usize>(spans: &[Span], threshold: u16) -> (Reply, Column<SLOTS>) {
+fn offered<const SLOTS: usize>(
+    spans: &[Span],
+    threshold: u16,
+) -> (Result<(), Refusal>, Column<SLOTS>) {
     let mut column = Column::new(one_cell());
-    let mut reply = Reply::Accepted;
+    let mut answer = Ok(());
     for new in spans {
-        reply = column.add_span(one_cell(), &mut [0; SLOTS], 0, 0, *new, threshold);
+        answer = column.add_span(one_cell(), &mut [0; SLOTS], 0, 0, *new, threshold);
     }
-    (reply, column)
+    (answer, column)
 }
 
 fn insertions(rt: &impl Print) -> io::Result<()> {
@@ -95,26 +98,26 @@ fn insertions(rt: &impl Print) -> io::Result<()> {
             [span(1, 9, 1), span(0, 1, 9)].as_slice(),
         ),
     ] {
-        let (reply, column) = offered::<4>(spans, threshold);
-        column_row(rt, name, expected, reply, &column)?;
+        let (answer, column) = offered::<4>(spans, threshold);
+        column_row(rt, name, expected, answer, &column)?;
     }
-    let (reply, column) = offered::<1>(&[span(2, 5, 3), span(6, 7, 1)], 0);
-    column_row(rt, "P6, apart", "5: [2,5] area 3", reply, &column)?;
-    let (reply, column) = offered::<1>(&[span(2, 5, 3), span(5, 7, 1)], 0);
-    column_row(rt, "P6, sharing a height", "0: accepted", reply, &column)
+    let (answer, column) = offered::<1>(&[span(2, 5, 3), span(6, 7, 1)], 0);
+    column_row(rt, "P6, apart", "5: [2,5] area 3", answer, &column)?;
+    let (answer, column) = offered::<1>(&[span(2, 5, 3), span(5, 7, 1)], 0);
+    column_row(rt, "P6, sharing a height", "0: accepted", answer, &column)
 }
 
 fn filters(rt: &impl Print) -> io::Result<()> {
     let (_, mut low) = offered::<4>(&[span(0, 1, 5), span(3, 4, 0), span(5, 6, 0)], 0);
-    let reply = low.filter_low_hanging_walkable_obstacles(one_cell(), &mut [0; 4], 3);
-    column_row(rt, "P10", "0: areas 5, 5, 0", reply, &low)?;
+    let answer = low.filter_low_hanging_walkable_obstacles(one_cell(), &mut [0; 4], 3);
+    column_row(rt, "P10", "0: areas 5, 5, 0", answer, &low)?;
     for (name, expected, height) in [
         ("P11, walkable height 5", "0: stays", 5),
         ("P11, walkable height 6", "0: cleared", 6),
     ] {
         let (_, mut high) = offered::<4>(&[span(65530, 65530, 7)], 0);
-        let reply = high.filter_walkable_low_height_spans(one_cell(), &mut [0; 4], height);
-        column_row(rt, name, expected, reply, &high)?;
+        let answer = high.filter_walkable_low_height_spans(one_cell(), &mut [0; 4], height);
+        column_row(rt, name, expected, answer, &high)?;
     }
     Ok(())
 }
@@ -122,9 +125,9 @@ fn filters(rt: &impl Print) -> io::Result<()> {
 // ---- words and numbers
 
 fn words(rt: &impl Print) -> io::Result<()> {
-    let linked = CompactSpan::with_links(200, 3, 63, 0, 61);
+    let linked = CompactSpan::with_links(200, [3, 63, 0, 61]);
     row(rt, "P7", "3371438019", linked)?;
-    let unlinked = CompactSpan::with_links(255, 63, 63, 63, 63);
+    let unlinked = CompactSpan::with_links(255, [63; 4]);
     row(rt, "P8", "4294967295", unlinked)?;
     row(rt, "P9, truncation of -0.75", "0", ops::truncate(-0.75))?;
     row(rt, "P9, truncation of -1", "-1", ops::truncate(-1.0))?;
@@ -160,11 +163,11 @@ fn ledges(rt: &impl Print) -> io::Result<()> {
             areas: [255; 9],
             nexts: [NONE; 9],
         };
-        let reply = store.filter_ledge_spans(cells(3.0, 64.0, 3.0), &mut [0; 9], 2, climb);
+        let answer = store.filter_ledge_spans(cells(3.0, 64.0, 3.0), &mut [0; 9], 2, climb);
         let areas = store.areas;
         let got = format_args!(
             "{}: centre {}, corner {}",
-            reply.number(),
+            number(answer),
             areas[4],
             areas[0]
         );
@@ -181,9 +184,9 @@ fn sliver(rt: &impl Print) -> io::Result<()> {
         corner(1.5, 1.0, 4.5),
     ];
     let mut store = Store::<16, 8>::new(grid);
-    let reply = store.rasterize_triangle(grid, &mut [0; 8], corners, 255, 1);
+    let answer = store.rasterize_triangle(grid, &mut [0; 8], corners, 255, 1);
     let held = u8::from(store.heads[0] != NONE);
-    let got = format_args!("{}: {held} spans", reply.number());
+    let got = format_args!("{}: {held} spans", number(answer));
     row(
         rt,
         "a sliver left of the grid",
@@ -207,8 +210,14 @@ fn tall_agent(rt: &impl Print) -> io::Result<()> {
         ("walkable height 256", "0: 4294967295, no links", 256),
     ] {
         let mut compact = Compact::<2, 2, 2>::filled(0);
-        let reply = store.into_compact(cells(2.0, 64.0, 1.0), &mut [0; 2], &mut compact, height, 1);
-        let got = format_args!("{}: {}", reply.number(), compact.words[0]);
+        let answer = store.into_compact(
+            cells(2.0, 64.0, 1.0),
+            &mut [0; 2],
+            &mut compact,
+            height,
+            1,
+        );
+        let got = format_args!("{}: {}", number(answer), compact.words[0]);
         row(rt, name, expected, got)?;
     }
     Ok(())
