@@ -67,6 +67,6 @@ module _ (g : Grid) (tall climb shortest : ℕ) (s : Store) (marks' : List ℕ) 
     compacted-field {top} {said} t' back et C =
         let next = Compacts (width g) (height g) (raised_top g tall) tall climb s t in
         rw (compact-back t' back) (
-          admits-past (keeping t) g s next (outcome said (store s.heads s.slots marks') (compact_of t')) A.0
-          (suits (columns g) _ _ shortest s t refl refl e A.1.1.fits) A.1.1.sound (rw (A.1.1.zeros, ← A.1.0.0, ← A.1.0.1, ← et) C)
+        admits-past (keeping t) g s next (outcome said (store s.heads s.slots marks') (compact_of t')) A.0
+        (suits (columns g) _ _ shortest s t refl refl e A.1.1.fits) A.1.1.sound (rw (A.1.1.zeros, ← A.1.0.0, ← A.1.0.1, ← et) C)
         )
