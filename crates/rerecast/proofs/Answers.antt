@@ -1,5 +1,5 @@
 -- Two answers that say the same are the same: an answer can be read back from its number and its values.
-use Rattle.std.proofs.Common.{◌≡◌, ℕ, cond, List, [], ◌∷◌, Result, Ok, Err, refl, sym, ap, ◌∙◌, arith}
+use Rattle.std.proofs.Common.{◌≡◌, cond, List, [], ◌∷◌, Result, Ok, Err, refl, sym, ap, ◌∙◌, arith}
 use Rattle.std.specs.Prelude.{Float}
 use lib.Dec.{eqb}
 use Rattle.replies.specs.Said.{Said, Value, whole, real}

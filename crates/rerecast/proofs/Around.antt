@@ -15,7 +15,7 @@ use Rattle.field.specs.Open.{Open, space}
 use Rattle.field.specs.Links.{passes, around, word_of, missed_of}
 use Rattle.field.specs.Rowing.{bare, Shown}
 use Rattle.field.proofs.Sides.{Beside, beside-shown, beside-inside, word-bare, missed-of-bare}
-use Rattle.rerecast.specs.Compacting.{side_of, place_of, Beside as BesideAt, layers_of, Within}
+use Rattle.rerecast.specs.Compacting.{side_of, Beside as BesideAt, layers_of, Within}
 use Rattle.rerecast.specs.declared.sides.Side.{Side}
 
 -- ---- the column beside a place

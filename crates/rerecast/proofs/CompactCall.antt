@@ -1,5 +1,5 @@
 -- The ends of `into_compact`, and the outcome that each makes.
-use mathlib.Core.Path.{◌≡◌, refl, ap, subst, ◌∙◌}
+use mathlib.Core.Path.{◌≡◌, refl, ap, ◌∙◌}
 use mathlib.Core.Logic.{inl, inr}
 use mathlib.Core.List.{List, flatten}
 use Prim.Native.Nat.{ℕ, ◌*◌, ◌≤◌, min}
@@ -11,7 +11,7 @@ use Rattle.grid.specs.declared.Grid.{Grid}
 use Rattle.grid.specs.Grid.{width, height, columns}
 use Rattle.field.specs.Field.{Field, Holds}
 use Rattle.field.specs.Store.{Store, store, cleared}
-use Rattle.field.specs.Open.{Open, columns_of, cells}
+use Rattle.field.specs.Open.{columns_of, cells}
 use Rattle.field.specs.Links.{passes, largest_missed}
 use Rattle.field.specs.Compact.{Result, result_of, rows, Suiting, Room, Few, complete, outcome, keeping, raised_top, complete_says, Compacts, Compacted}
 use Rattle.field.proofs.Admitting.{admits-past, admits-swap, admits-refused}
@@ -67,6 +67,6 @@ module _ (g : Grid) (tall climb shortest : ℕ) (s : Store) (marks' : List ℕ) 
     compacted-field {top} {said} t' back et C =
         let next = Compacts (width g) (height g) (raised_top g tall) tall climb s t in
         rw (compact-back t' back) (
-          admits-past (keeping t) g s next (outcome said (store s.heads s.slots marks') (compact_of t')) A.0
-          (suits (columns g) _ _ shortest s t refl refl e A.1.1.fits) A.1.1.sound (rw (A.1.1.zeros, ← A.1.0.0, ← A.1.0.1, ← et) C)
+        admits-past (keeping t) g s next (outcome said (store s.heads s.slots marks') (compact_of t')) A.0
+        (suits (columns g) _ _ shortest s t refl refl e A.1.1.fits) A.1.1.sound (rw (A.1.1.zeros, ← A.1.0.0, ← A.1.0.1, ← et) C)
         )

@@ -1,8 +1,8 @@
 -- What the inner functions of `into_compact` need of the crates below.
 use mathlib.Core.Path.{◌≡◌, ap, ◌∙◌}
-use mathlib.Core.Bool.{Bool, cond}
+use mathlib.Core.Bool.{Bool}
 use mathlib.Core.List.{List, [], ◌∷◌, map, foldl}
-use Prim.Native.Nat.{ℕ, ◌+◌, ◌<◌, ◌≤◌, max}
+use Prim.Native.Nat.{ℕ, max}
 use native.Mathlib.Omega.{arith}
 use lib.ListN.{length, get_or}
 use lib.Seq.{length-sets}

@@ -1,7 +1,17 @@
 // What a call answered, as a line: the bare values, or in words with the place of a stop.
 use crate::writer::{Out, say, say_bits, say_number};
 use crate::{commands, numbers};
-use rerecast::Reply;
+use rerecast::Refusal;
+
+// What a call answers: nothing, or where the box now ends, or why it refuses.
+pub type Answer = Result<Option<f32>, Refusal>;
+
+fn number_of(answer: Answer) -> u32 {
+    match answer {
+        Ok(_) => 0,
+        Err(refusal) => refusal.number(),
+    }
+}
 
 pub fn say_float(out: &mut Out, x: f32) {
     say_bits(out, numbers::bits_of(x));
@@ -28,31 +38,29 @@ fn say_pair(out: &mut Out, a: u32, b: u32) {
 }
 
 // The values of a reply, each after a space.
-fn say_values(out: &mut Out, reply: Reply) {
+fn say_values(out: &mut Out, reply: Answer) {
     match reply {
-        Reply::BadNumber(x) => {
+        Err(Refusal::BadNumber(x)) => {
             say(out, b" ");
             say_float(out, x);
         }
-        Reply::GridSize(width, height) => {
+        Err(Refusal::GridSize(width, height)) => {
             say(out, b" ");
             say_float(out, width);
             say(out, b" ");
             say_float(out, height);
         }
-        Reply::Compacted(y) => {
+        Ok(Some(y)) => {
             say(out, b" ");
             say_float(out, y);
         }
-        Reply::Layers(layer, y) => {
+        Err(Refusal::Layers(layer, y)) => {
             say(out, b" ");
             say_number(out, layer as u64);
             say(out, b" ");
             say_float(out, y);
         }
-        Reply::NoSlotAt(triangle, made) => say_pair(out, triangle, made),
-        Reply::EighthVertex(triangle, made) => say_pair(out, triangle, made),
-        Reply::TooHigh(triangle, made) => say_pair(out, triangle, made),
+        Err(Refusal::Stopped(_, triangle, made)) => say_pair(out, triangle, made),
         _ => {}
     }
 }
@@ -93,44 +101,42 @@ fn say_top(out: &mut Out, y: f32) {
 }
 
 // The values of a reply in words.
-fn say_place(out: &mut Out, reply: Reply) {
+fn say_place(out: &mut Out, reply: Answer) {
     match reply {
-        Reply::BadNumber(x) => {
+        Err(Refusal::BadNumber(x)) => {
             say(out, b": ");
             say_float(out, x);
         }
-        Reply::GridSize(width, height) => {
+        Err(Refusal::GridSize(width, height)) => {
             say(out, b": ");
             say_float(out, width);
             say(out, b" by ");
             say_float(out, height);
         }
-        Reply::Compacted(y) => say_top(out, y),
-        Reply::Layers(layer, y) => {
+        Ok(Some(y)) => say_top(out, y),
+        Err(Refusal::Layers(layer, y)) => {
             say(out, b", the largest is ");
             say_number(out, layer as u64);
             say_top(out, y);
         }
-        Reply::NoSlotAt(triangle, made) => say_stop(out, triangle, made),
-        Reply::EighthVertex(triangle, made) => say_stop(out, triangle, made),
-        Reply::TooHigh(triangle, made) => say_stop(out, triangle, made),
+        Err(Refusal::Stopped(_, triangle, made)) => say_stop(out, triangle, made),
         _ => {}
     }
 }
 
-fn say_rest(out: &mut Out, terse: bool, reply: Reply) {
+fn say_rest(out: &mut Out, terse: bool, reply: Answer) {
     if terse {
         say_values(out, reply);
     } else {
-        say_meaning(out, reply.number());
+        say_meaning(out, number_of(reply));
         say_place(out, reply);
     }
 }
 
-pub fn answer(out: &mut Out, terse: bool, code: u32, reply: Reply) {
+pub fn answer(out: &mut Out, terse: bool, code: u32, reply: Answer) {
     say_name(out, code);
     say(out, b": reply ");
-    say_number(out, reply.number() as u64);
+    say_number(out, number_of(reply) as u64);
     say_rest(out, terse, reply);
     say(out, b"\n");
 }

@@ -39,7 +39,7 @@ pub fn rasterize(
         shades,
         short(c.a),
     );
-    answer(out, s.terse, commands::RASTERIZE, reply);
+    answer(out, s.terse, commands::RASTERIZE, reply.map(|()| None));
     with_free(s, free)
 }
 
@@ -77,6 +77,6 @@ pub fn populate(
         short(c.a),
         short(c.b),
     );
-    answer(out, s.terse, commands::POPULATE, reply);
+    answer(out, s.terse, commands::POPULATE, reply.map(|()| None));
     with_free(s, free)
 }

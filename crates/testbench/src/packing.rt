@@ -5,13 +5,12 @@ use crate::commands::Command;
 use crate::state::State;
 use crate::store::short;
 use crate::writer::Out;
-use rerecast::{Reply, compact_heightfield};
+use rerecast::{Refusal, compact_heightfield};
 
-// Whether a reply comes with a compact result.
-fn has_result(reply: Reply) -> bool {
-    match reply {
-        Reply::Compacted(_) => true,
-        Reply::Layers(_, _) => true,
+// Whether an answer comes with a compact result.
+fn has_result(answer: Result<f32, Refusal>) -> bool {
+    match answer {
+        Ok(_) | Err(Refusal::Layers(_, _)) => true,
         _ => false,
     }
 }
@@ -54,7 +53,7 @@ pub fn pack(
         short(c.a),
         short(c.b),
     );
-    answer(out, s.terse, commands::COMPACT, reply);
+    answer(out, s.terse, commands::COMPACT, reply.map(Some));
     let mut t = s;
     t.packed = has_result(reply);
     t.packed_width = s.width;

@@ -37,7 +37,7 @@ pub fn fresh(
     let grid = s.grid;
     let mut free = s.free;
     let reply = heightfield::fresh(grid, heads, &mut free, floors, ceilings, areas, nexts);
-    answer(out, s.terse, commands::FRESH, reply);
+    answer(out, s.terse, commands::FRESH, reply.map(|()| None));
     let mut t = with_free(s, free);
     t.packed = false;
     t
@@ -78,7 +78,7 @@ pub fn add(
         span,
         short(c.f),
     );
-    answer(out, s.terse, commands::ADD, reply);
+    answer(out, s.terse, commands::ADD, reply.map(|()| None));
     with_free(s, free)
 }
 
@@ -109,7 +109,7 @@ fn low(
         marks,
         short(c.a),
     );
-    answer(out, s.terse, commands::LOW, reply);
+    answer(out, s.terse, commands::LOW, reply.map(|()| None));
 }
 
 fn ledges(
@@ -140,7 +140,7 @@ fn ledges(
         short(c.a),
         short(c.b),
     );
-    answer(out, s.terse, commands::LEDGES, reply);
+    answer(out, s.terse, commands::LEDGES, reply.map(|()| None));
 }
 
 fn ceilings_low(
@@ -170,7 +170,7 @@ fn ceilings_low(
         marks,
         short(c.a),
     );
-    answer(out, s.terse, commands::CEILINGS, reply);
+    answer(out, s.terse, commands::CEILINGS, reply.map(|()| None));
 }
 
 // The filter that the command names, if it names one.

@@ -1,10 +1,7 @@
 -- The tally, the room and the complete result, each an end of the call.
 use mathlib.Core.Path.{ap}
 use mathlib.Core.Bool.{not}
-use mathlib.Core.List.{flatten}
-use lib.ListN.{length}
 use Rattle.field.specs.Store.{store}
-use Rattle.field.specs.Open.{columns_of, cells}
 use Rattle.field.specs.Compact.{Room}
 use Rattle.field.proofs.Basics.{says-true, says-false}
 use Rattle.rerecast.specs.Lent.{slots_in, compact_of}

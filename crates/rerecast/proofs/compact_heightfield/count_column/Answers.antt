@@ -26,8 +26,8 @@ pub loop-at-preserved : goal.loop-at-preserved
 loop-at-preserved c =
     tallying-step c.loop-at.invariant c.loop-at-test.true
     (elim c.if-areas-i-ne-NOT_WALKABLE.branch [
-      then-areas-i-ne-NOT_WALKABLE w ↦ rw (w.n-is, ne_eqb _ _ w.if-areas-i-ne-NOT_WALKABLE.true) refl
-    | else-areas-i-ne-NOT_WALKABLE w ↦ rw (w.n-is, eq-eqb _ _ w.if-areas-i-ne-NOT_WALKABLE.false) refl
+      | then-areas-i-ne-NOT_WALKABLE w ↦ rw (w.n-is, ne_eqb _ _ w.if-areas-i-ne-NOT_WALKABLE.true) refl
+      | else-areas-i-ne-NOT_WALKABLE w ↦ rw (w.n-is, eq-eqb _ _ w.if-areas-i-ne-NOT_WALKABLE.false) refl
     ])
 
 pub returns : goal.returns

@@ -10,7 +10,6 @@ use Rattle.field.specs.Open.{columns_of}
 use Rattle.field.specs.Compact.{Result}
 use Rattle.field.proofs.Holding.{column-chain}
 use Rattle.field.proofs.Filling.{Shape, shape-start, filling-start, filling-end, cell-few, cell-layable, stored-place, stored-index, filling_step, shape-step}
-use Rattle.rerecast.specs.Lent.{compact_of}
 use Rattle.rerecast.proofs.Compacting.{same-compact}
 use Rattle.rerecast.proofs.compact_heightfield.fill_columns.Goals as goal
 use Rattle.rerecast.proofs.compact_heightfield.fill_columns.Goals.{After-index_of}

@@ -49,7 +49,7 @@ loop-l-preserved c =
     let next = sym (largest-next ys ws s.side.first s.side.count pass v.l v.best c.loop-l-test.true) ∙ v.invariant.1 in (
       omega (arith, c.loop-l-test.true),
       elim c.if-can_pass.branch [
-        then-can_pass w ↦ rw w.best-is (rw (← test, w.if-can_pass.true) at next)
-      | else-can_pass w ↦ rw w.best-is (rw (← test, w.if-can_pass.false) at next)
+        | then-can_pass w ↦ rw w.best-is (rw (← test, w.if-can_pass.true) at next)
+        | else-can_pass w ↦ rw w.best-is (rw (← test, w.if-can_pass.false) at next)
       ],
     )
