@@ -157,12 +157,7 @@ pub fn add_span(
 // ---- a mesh and the filters
 
 // The three filters on a sound field, in their order.
-fn filter_all(
-    columns: &Columns<'_>,
-    areas: &mut [u8],
-    size: Size,
-    agent: Agent,
-)
+fn filter_all(columns: &Columns<'_>, areas: &mut [u8], size: Size, agent: Agent)
     requires all_columns { size.width * size.height ≡ length columns.now.heads.now }
     requires held { Held columns.now.heads.now (slots_in columns.now areas.old) }
     ensures { (f : Field) → Holds columns.now.heads.now (slots_in columns.now areas.old) f

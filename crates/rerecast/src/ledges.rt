@@ -3,11 +3,10 @@ ghost use Rattle.std.specs.Prelude.{◌≡◌, cond, List, [], map, ℕ, ◌+◌
 ghost use Rattle.field.specs.declared.Span.{Span};
 ghost use Rattle.field.specs.Slots.{span_at};
 ghost use Rattle.field.specs.Field.{Field, spans, Holds, Held};
-ghost use Rattle.grid.specs.Grid.{width, height};
 ghost use Rattle.field.specs.Inner.{Chain, Distinct};
 ghost use Rattle.field.specs.Marks.{Climbs};
 ghost use Rattle.field.specs.Beside.{beside};
-ghost use Rattle.field.specs.LedgeTest.{view, seen, looked, looked_at, tells, ledge};
+ghost use Rattle.field.specs.LedgeTest.{seen, looked, looked_at, tells, ledge};
 ghost use Rattle.field.specs.FilterCode.{roof_at, around, greatest, hollow_of, Inside, Cursor};
 ghost use Rattle.field.specs.Filters.{ruled, assign, firm, ledges};
 ghost use Rattle.rerecast.specs.Lent.{slots_in, contents_in, EvenSlots};
@@ -222,14 +221,9 @@ fn hollow_of(floors: &[u16], sides: Sides) -> u16
 }
 
 // The filter on a column that is not at the rim.
-fn clear_inner(
-    columns: &Columns<'_>,
-    areas: &mut [u8],
-    width: usize,
-    column: usize,
-    agent: Agent,
-)
-    requires inside { (0 < column) × (width ≤ column) × (column + width < length columns.now.heads.now) × (column + 1 < length columns.now.heads.now) × (length columns.now.heads.now ≤ 1048576) }
+fn clear_inner(columns: &Columns<'_>, areas: &mut [u8], width: usize, column: usize, agent: Agent)
+    requires inside { (0 < column) × (width ≤ column) × (column + width < length columns.now.heads.now) × (column + 1 < length columns.now.heads.now)
+        × (length columns.now.heads.now ≤ 1048576) }
     requires even { length areas.old ≡ length columns.now.nexts.now }
     requires held { (areas₀ : List ℕ) × Held columns.now.heads.now (slots_in columns.now areas₀) }
     ensures { (areas₀ : List ℕ) (f : Field) → Holds columns.now.heads.now (slots_in columns.now areas₀) f → (ss : List ℕ)
@@ -275,13 +269,7 @@ fn clear_all(columns: &Columns<'_>, areas: &mut [u8], head: u32)
 }
 
 // The filter on one column. Many are empty, and in an empty one there is nothing to look for.
-fn clear_column(
-    columns: &Columns<'_>,
-    areas: &mut [u8],
-    size: Size,
-    c: Cell,
-    agent: Agent,
-)
+fn clear_column(columns: &Columns<'_>, areas: &mut [u8], size: Size, c: Cell, agent: Agent)
     requires on_grid { (c.x < size.width) × (c.z < size.height) × (size.width * size.height ≡ length columns.now.heads.now) }
     requires even { length areas.old ≡ length columns.now.nexts.now }
     requires held { (areas₀ : List ℕ) × Held columns.now.heads.now (slots_in columns.now areas₀) }
@@ -305,12 +293,7 @@ fn clear_column(
 }
 
 // The filter on a sound field.
-pub(crate) fn clear_columns(
-    columns: &Columns<'_>,
-    areas: &mut [u8],
-    size: Size,
-    agent: Agent,
-)
+pub(crate) fn clear_columns(columns: &Columns<'_>, areas: &mut [u8], size: Size, agent: Agent)
     requires all_columns { size.width * size.height ≡ length columns.now.heads.now }
     requires held { Held columns.now.heads.now (slots_in columns.now areas.old) }
     ensures { (f : Field) → Holds columns.now.heads.now (slots_in columns.now areas.old) f

@@ -1,4 +1,4 @@
--- `clear_column` meets its contract: in an empty column there is no span, at the rim every span is at a ledge, and elsewhere the four columns beside are on the grid.
+-- `clear_column` meets its contract: in an empty column there is no span, and at the rim every span is at a ledge.
 use Prim.Native.Nat.{ℕ, ◌+◌, ◌*◌}
 use mathlib.Core.Path.{◌≡◌, refl, sym, ap, subst, ◌∙◌}
 use mathlib.Core.List.{List, [], map}
@@ -34,16 +34,18 @@ clear_inner-requires-clause-inside c =
 pub returns-then-on_rim : goal.returns-then-on_rim
 returns-then-on_rim c areas₀ f H ss k =
     let a = c.args in
+    let around = beside a.size.width a.size.height (a.c.x + a.c.z * a.size.width) in
     let off = beside-off a.size.width a.size.height a.c.x a.c.z (omega arith) c.if-on_rim.ensures in
     (rw c.column_at-column.ensures.0 at c.clear_all.ensures) ss k
     ∙ ap (assign a.areas.now ss)
-    (ruled-agree _ _ (λ below s above. sym (firm-off a.agent.height a.agent.climb (spans f) (beside a.size.width a.size.height (a.c.x + a.c.z * a.size.width)) off s above)) [] _)
+    (ruled-agree _ _ (λ below s above. sym (firm-off a.agent.height a.agent.climb (spans f) around off s above)) [] _)
 
 pub returns-else-on_rim : goal.returns-else-on_rim
 returns-else-on_rim c areas₀ f H ss k =
     let a = c.args in
     let r = rim-not a.size.width a.size.height a.c.x a.c.z c.if-on_rim.ensures in
     let column = map (span_at (contents_in a.columns.now a.areas.now)) ss in
-    subst (λ (ks : List ℕ). c.clear_inner.new.areas ≡ assign a.areas.now ss (ruled (λ below s above. firm a.agent.height a.agent.climb (spans f) ks s above) [] column))
+    let areas = λ (ks : List ℕ). assign a.areas.now ss (ruled (λ below s above. firm a.agent.height a.agent.climb (spans f) ks s above) [] column) in
+    subst (λ (ks : List ℕ). c.clear_inner.new.areas ≡ areas ks)
     (sym (beside-around a.size.width a.size.height a.c.x a.c.z r.0 r.1 r.2 r.3))
     ((rw c.column_at-column.ensures.0 at c.clear_inner.ensures) areas₀ f H ss k)

@@ -58,16 +58,16 @@ loop-at-preserved c =
     let p = c.requires.inside in
     let inside = around-inside a.width a.column (length a.columns.now.heads.now) p.2 p.3 (omega arith) in
     let on = λ (areas₀ : List ℕ) (f : Field) (H : Holds a.columns.now.heads.now (slots_in a.columns.now areas₀) f).
-        let l = c.loop-at.invariant.0 areas₀ f H in
-        let serves = ledging-serves l n in
-        let hollow-is =
-        c.hollow_of-hollow.ensures
-        ∙ ap (λ (rs : List ℕ). greatest (map (roof_at a.columns.now.floors.now) rs)) c.sides_of-sides.ensures
-        ∙ hollow-first H a.width a.column (omega arith) p.2 p.3 (omega arith)
-        in
-        let judged = rw c.roof_of-roof.ensures at c.judge-judged.ensures.judged in
-        ledging-step l n (judged areas₀ (spans f) a.width a.column serves inside hollow-is)
-        (c.judge-judged.ensures.keeps_cursors areas₀ (spans f) a.width a.column serves)
+    let l = c.loop-at.invariant.0 areas₀ f H in
+    let serves = ledging-serves l n in
+    let hollow-is =
+    c.hollow_of-hollow.ensures
+    ∙ ap (λ (rs : List ℕ). greatest (map (roof_at a.columns.now.floors.now) rs)) c.sides_of-sides.ensures
+    ∙ hollow-first H a.width a.column (omega arith) p.2 p.3 (omega arith)
+    in
+    let judged = rw c.roof_of-roof.ensures at c.judge-judged.ensures.judged in
+    ledging-step l n (judged areas₀ (spans f) a.width a.column serves inside hollow-is)
+    (c.judge-judged.ensures.keeps_cursors areas₀ (spans f) a.width a.column serves)
     in
     let at-held = on _ _ c.requires.held.1.1 in
     rw c.change_byte.ensures (on, chain-reached at-held.up.left at-held.up.here)

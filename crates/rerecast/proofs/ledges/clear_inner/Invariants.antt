@@ -14,8 +14,8 @@ abbrev pub invariant-loop-at : goal.invariant-loop-at
 invariant-loop-at l =
     let columns = l.columns in
     ((areas₀ : List ℕ) (f : Field) → Holds columns.heads.now (slots_in columns areas₀) f
-        → Ledging columns.floors.now columns.ceilings.now columns.nexts.now l.width l.column l.agent.height l.agent.climb f areas₀ (get_or columns.heads.now l.column 0) l.initial.areas
-        l.areas l.at (sides_of l.sides))
+    → Ledging columns.floors.now columns.ceilings.now columns.nexts.now l.width l.column l.agent.height l.agent.climb f areas₀ (get_or columns.heads.now l.column 0) l.initial.areas
+    l.areas l.at (sides_of l.sides))
     × Reached columns.nexts.now l.at
 
 abbrev pub decreases-loop-at : goal.decreases-loop-at

@@ -1,5 +1,4 @@
 -- `lower_column` meets its contract.
-use Rattle.field.specs.Slots.{contents}
 use Rattle.field.proofs.Upward.{roof-of, upward-start, upward-step, upward-end}
 use Rattle.rerecast.specs.Lent.{contents_in}
 use Rattle.rerecast.proofs.Columns.{chain-reached}
