@@ -5,7 +5,6 @@ pub mod Compacting
 pub mod Around
 pub mod LinkCursors
 pub mod CompactCall
-pub mod Filtered
 pub mod Rasterizing
 pub mod MeshAdmitted
 pub mod Columns
