@@ -84,7 +84,7 @@ impl CompactCell {
     }
 
     // The same of a cell by value: it lends its own copy, so that a caller needs no reference to a cell.
-    // Where it is refused, the cell that was passed is what would be left.
+    // On a refusal the cell that was passed stays as it is, so none is handed back.
     pub fn raise(self) -> Result<Self, Full>
         ensures reply { said_of result ≡ raise_says self.count }
         ensures raised { IfOk result (λ cell. cell ≡ raised_cell self) }
@@ -97,6 +97,7 @@ impl CompactCell {
 }
 
 // One more span in the cell at a place of the lent slices: refused (4) past either of them.
+// A cell's two numbers are in two slices, since C lends them so.
 pub fn raise_at(indices: &[u32], counts: &mut [u8], place: usize) -> Result<(), RaiseError>
     ensures counts_after { counts.new ≡ raised_counts indices.now counts.old place }
     ensures result_value { said_of_at result ≡ raise_at_says indices.now counts.old place }

@@ -22,7 +22,7 @@ impl CompactSpan {
     // The mark of an empty link.
     pub const NOT_CONNECTED: u8 = 63;
 
-    // Directions are 0 to 3.
+    // Directions are 0 to 3. They are numbers, and no enum, since `con` and `set_con` promise an answer to any other: 13.
     const LAST_DIRECTION: u8 = 3;
 
     // A span with no links.
@@ -50,6 +50,7 @@ impl CompactSpan {
     }
 
     // The bare word of a height and a link number for each direction; a number above 63 counts as empty.
+    // They are numbers, and no options, since the contract says what becomes of any number, also of one that is no link.
     pub fn with_links(height: u8, links: [u8; 4]) -> u32
         ensures { result ≡ word height (map held links) }
     {

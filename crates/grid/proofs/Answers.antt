@@ -9,7 +9,7 @@ use Rattle.grid.specs.declared.GridError.TheVariants.{BadNumber, BoxOrder, GridS
 
 -- ---- a refusal can be read back from the values that it says
 
-abbrev read_back : List Value → GridError
+abbrev pub read_back : List Value → GridError
 read_back [] = BoxOrder
 read_back (real x ∷ []) = BadNumber x
 read_back (real w ∷ real h ∷ vs) = GridSize w h

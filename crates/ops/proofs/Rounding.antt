@@ -8,7 +8,7 @@ use lib.Ieee.Fits.{down_pos}
 use Rattle.ops.specs.Round.{held, end_of, toward, away, fraction, rounded_to, floor_to, ceil_to}
 use Rattle.ops.proofs.Fractions.{away-ge, away-le, away-one}
 use Rattle.ops.proofs.Given.{minus-in}
-use Rattle.ops.proofs.Limits.{most, nought, beyond-most, not-at-least, not_negative, some_below, none_below, not-below, some-above, none_above, not-above}
+use Rattle.ops.proofs.Limits.{most, nought, under-most, beyond-most, not-at-least, not_negative, some_below, none_below, not-below, some-above, none_above, not-above}
 
 pub truncation_is : (h : ℕ) (x : Float) → to_signed h x ≡ rounded_to h false false x
 unfolding to_signed rounded_to
@@ -112,20 +112,17 @@ held-zero h false n z = ap pos (omega arith)
 
 module _ (m : ℕ) (e : ℤ) where
   -- below 1 the whole part is 0
-  cut : le (most 0) (fin false m e) ≡ false → toward (m * up e) (down e) ≡ 0
-  cut a = div-eq_of_lt (subst (λ (k : ℕ). m * up e < k) (one-mul (down e)) (not-at-least 0 m e a))
+  cut : m * up e < 2 ^ 0 * down e → toward (m * up e) (down e) ≡ 0
+  cut a = div-eq_of_lt (subst (λ (k : ℕ). m * up e < k) (one-mul (down e)) a)
 
   -- above 0 and not above 1, what is at or above it is 1
   filled : 0 < m * up e → m * up e < 2 ^ 0 * down e → away (m * up e) (down e) ≡ 1
   filled a b = away-one (m * up e) (down e) a (omega (arith, one-mul (down e)))
 
-  none : m * up e ≤ 0 → away (m * up e) (down e) ≡ 0
-  none a = omega (arith, away-le (m * up e) (down e) 0 (down_pos e) (omega arith))
-
--- 0 either way
-stays : (f : Bool) (n d : ℕ) → toward n d ≡ 0 → away n d ≡ 0 → fraction f n d ≡ 0
-stays true n d t a = a
-stays false n d t a = t
+  -- of 0 it is 0 either way
+  none : (f : Bool) → m * up e ≤ 0 → fraction f (m * up e) (down e) ≡ 0
+  none true a = omega (arith, away-le (m * up e) (down e) 0 (down_pos e) (omega arith))
+  none false a = cut (omega (arith, one-mul (down e), down_pos e))
 
 module _ (h : ℕ) where
   pub one-above : 1 ≤ h → (below : Bool) (x : Float) → le (most 0) x ≡ false → lt nought x ≡ true → pos 1 ≡ rounded_to h true below x
@@ -136,27 +133,34 @@ module _ (h : ℕ) where
   one-above l below (fin true m e) a b = absurd (not-above m e b)
   one-above l below (fin false m e) a b = ap pos (omega (arith, pow_mono l, filled m e (some-above m e b) (not-at-least 0 m e a)))
 
-  pub one_below : (above : Bool) (x : Float) → le (most 0) (neg x) ≡ false → lt x nought ≡ true → negsuc 0 ≡ rounded_to h above true x
-  unfolding rounded_to le lt eq neg
-  one_below above nan a b = absurd (true≢false (sym b))
-  one_below above (inf true) a b = absurd (true≢false a)
-  one_below above (inf false) a b = absurd (true≢false (sym b))
+  pub one_below : (above : Bool) (x : Float) → lt x nought ≡ true → lt (neg x) (most 0) ≡ true → negsuc 0 ≡ rounded_to h above true x
+  unfolding rounded_to lt neg
+  one_below above nan a b = absurd (true≢false (sym a))
+  one_below above (inf true) a b = absurd (true≢false (sym b))
+  one_below above (inf false) a b = absurd (true≢false (sym a))
   one_below above (fin true m e) a b =
-      let one : 1 ≡ min (away (m * up e) (down e)) (2 ^ h) = omega (arith, pow_pos h, filled m e (some_below m e b) (not-at-least 0 m e a)) in
+      let one : 1 ≡ min (away (m * up e) (down e)) (2 ^ h) = omega (arith, pow_pos h, filled m e (some_below m e a) (under-most 0 m e b)) in
       ap (λ (k : ℕ). neg_ℤ (pos k)) one
-  one_below above (fin false m e) a b = absurd (not-below m e b)
+  one_below above (fin false m e) a b = absurd (not-below m e a)
 
-  -- no number, or one between that is not to go away from zero
-  pub zero-between : (above below : Bool) (x : Float) → le (most 0) x ≡ false → le (most 0) (neg x) ≡ false
-      → (above ≡ false) ⊎ (lt nought x ≡ false) → (below ≡ false) ⊎ (lt x nought ≡ false) → pos 0 ≡ rounded_to h above below x
-  unfolding rounded_to le lt eq neg
-  zero-between above below nan a b p q = refl
-  zero-between above below (inf true) a b p q = absurd (true≢false b)
-  zero-between above below (inf false) a b p q = absurd (true≢false a)
-  zero-between above below (fin true m e) a b p (inl q) = held-zero h true _ (rw q (cut m e b))
-  zero-between above below (fin true m e) a b p (inr q) = held-zero h true _ (stays below (m * up e) (down e) (cut m e b) (none m e (none_below m e q)))
-  zero-between above below (fin false m e) a b (inl p) q = held-zero h false _ (rw p (cut m e a))
-  zero-between above below (fin false m e) a b (inr p) q = held-zero h false _ (stays above (m * up e) (down e) (cut m e a) (none m e (none_above m e p)))
+  pub zero_below : (above : Bool) (x : Float) → lt x nought ≡ true → lt (neg x) (most 0) ≡ true → pos 0 ≡ rounded_to h above false x
+  unfolding rounded_to lt neg
+  zero_below above nan a b = refl
+  zero_below above (inf true) a b = absurd (true≢false (sym b))
+  zero_below above (inf false) a b = absurd (true≢false (sym a))
+  zero_below above (fin true m e) a b = held-zero h true _ (cut m e (under-most 0 m e b))
+  zero_below above (fin false m e) a b = absurd (not-below m e a)
+
+  -- no number, 0, or one above 0 that goes toward it
+  pub zero-above : (above below : Bool) (x : Float) → le (most 0) x ≡ false → lt x nought ≡ false
+      → (above ≡ false) ⊎ (lt nought x ≡ false) → pos 0 ≡ rounded_to h above below x
+  unfolding rounded_to le lt eq
+  zero-above above below nan a b p = refl
+  zero-above above below (inf true) a b p = absurd (true≢false b)
+  zero-above above below (inf false) a b p = absurd (true≢false a)
+  zero-above above below (fin true m e) a b p = held-zero h true _ (none m e below (none_below m e b))
+  zero-above above below (fin false m e) a b (inl p) = held-zero h false _ (rw p (cut m e (not-at-least 0 m e a)))
+  zero-above above below (fin false m e) a b (inr p) = held-zero h false _ (none m e above (none_above m e p))
 
 -- ---- both are in the range
 

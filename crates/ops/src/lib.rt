@@ -45,7 +45,10 @@ fn rounded<const ABOVE_AWAY: bool, const BELOW_AWAY: bool>(x: f32) -> i32
         }
         return i32::MAX;
     }
-    if x <= -1.0 {
+    if x < 0.0 {
+        if x > -1.0 {
+            return if BELOW_AWAY { -1 } else { 0 };
+        }
         if x > -2147483648.0 {
             return -whole::<BELOW_AWAY>(-x);
         }
@@ -53,9 +56,6 @@ fn rounded<const ABOVE_AWAY: bool, const BELOW_AWAY: bool>(x: f32) -> i32
     }
     if ABOVE_AWAY && x > 0.0 {
         return 1;
-    }
-    if BELOW_AWAY && x < 0.0 {
-        return -1;
     }
     0
 }

@@ -8,20 +8,19 @@ use Rattle.std.specs.Prelude.{Ok, Err}
 use Rattle.replies.specs.Said.{Said, just, Asks}
 use Rattle.grid.specs.declared.Grid.{Grid}
 use Rattle.grid.specs.declared.sizes.Size.{Size}
-use Rattle.grid.specs.Grid.{width, height, columns, grid_says}
+use Rattle.grid.specs.Grid.{width, height, grid_says}
 use Rattle.grid.specs.Answer as grids
-use Rattle.grid.proofs.Accepted.{accepted, fine}
+use Rattle.grid.proofs.Accepted.{fine}
 use Rattle.field.specs.declared.Span.{Span}
 use Rattle.field.specs.Slots.{Slots, slots}
 use Rattle.field.specs.Field.{Held}
-use Rattle.field.specs.Store.{Store, store, Fits, Fitting, left}
-use Rattle.field.specs.Calls.{Made, made, IsFresh, Freshened, Offers, Added}
-use Rattle.field.proofs.Admitting.{admits-past, admits-swap, admits-refused}
-use Rattle.rerecast.specs.Answer.{refusal_says}
+use Rattle.field.specs.Store.{Store, store, Fits, left}
+use Rattle.field.specs.Calls.{made, IsFresh, Freshened, Offers, Added}
+use Rattle.field.proofs.Admitting.{admits-past}
 use Rattle.rerecast.specs.declared.Refusal.{Refusal}
 use Rattle.rerecast.specs.declared.lent.Slots as lent
 use Rattle.rerecast.specs.Lent.{slots_of}
-use Rattle.rerecast.specs.Inner.{Fitted, Passed, AdmitsStore, AdmitsCall}
+use Rattle.rerecast.specs.Inner.{Passed, AdmitsStore, AdmitsCall}
 use Rattle.rerecast.proofs.GivenBack.{GivenBack, given-back}
 
 -- past the grid's tests
@@ -45,13 +44,6 @@ module _ (g : Grid) (size : Size) (says : grids.said_of (Ok size) ≡ grid_says 
 -- what a call may rely on past all of them
 pub call-ready : (g : Grid) (size : Size) (shortest : ℕ) (s : Store) (marks' : List ℕ) → AdmitsCall (Ok size) g shortest s marks' → (size.width * size.height ≤ length s.heads) × Held (take (size.width * size.height) s.heads) s.slots
 call-ready g size shortest s marks' A = rw (A.1.0.0, A.1.0.1) (A.1.1.fits.0.fits.enough, A.1.1.sound)
-
--- one span: refused by a test
-pub added-refused : (q : Refusal) (g : Grid) (x z : ℕ) (new : Span) (th : ℕ) (s : Store) (marks' : List ℕ) → AdmitsCall (Err q) g (length s.heads) s marks' → Added g x z new th s (left (refusal_says q) (store s.heads s.slots marks'))
-added-refused q g x z new th s marks' A =
-    let s' = store s.heads s.slots marks' in
-    admits-swap left g s (Offers (width g) (height g) x z new th s) (left (refusal_says q) s') (λ (f : Fitted (columns g) (length s.heads) s). f.0) (λ (f : Fitting (columns g) s). (f, f.fits.enough))
-    (admits-refused left g (Fitted (columns g) (length s.heads) s) s (Offers (width g) (height g) x z new th s) (refusal_says q) s' A)
 
 -- one span: past all tests
 pub added-offered : (g : Grid) (size : Size) (x z : ℕ) (new : Span) (th shortest : ℕ) (s : Store) (marks' heads' : List ℕ) (t' : lent.Slots) (said : Said) {free : ℕ} {fl ce ar nx : List ℕ}

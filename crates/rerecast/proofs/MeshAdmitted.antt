@@ -11,7 +11,7 @@ use Rattle.grid.specs.declared.Grid.{Grid}
 use Rattle.grid.specs.declared.sizes.Size.{Size}
 use Rattle.grid.specs.Grid.{width, height, columns}
 use Rattle.grid.proofs.Accepted.{accepted}
-use Rattle.field.specs.Slots.{Slots}
+use Rattle.field.specs.Slots.{Slots, slots}
 use Rattle.field.specs.Field.{Field, Held}
 use Rattle.field.specs.Store.{Store, store, left}
 use Rattle.field.specs.Inner.{Says}
@@ -21,9 +21,12 @@ use Rattle.field.proofs.Admitting.{admits-past}
 use Rattle.field.proofs.Taking.{served, mesh-refused, numbers-refused}
 use Rattle.rerecast.specs.Answer.{refusal_says}
 use Rattle.rerecast.specs.declared.Refusal.{Refusal}
+use Rattle.rerecast.specs.declared.lent.Slots as lent
+use Rattle.rerecast.specs.Lent.{slots_of}
 use Rattle.rerecast.specs.Inner.{AdmitsCall}
 use Rattle.rerecast.specs.MeshAdmission.{AdmitsNumbers, Passes, AdmitsMesh}
 use Rattle.rerecast.specs.Rasterize.{Sides}
+use Rattle.rerecast.proofs.GivenBack.{GivenBack, given-back}
 
 -- ---- the tests one after another
 
@@ -71,3 +74,9 @@ module _ (w h : ℕ) (g : Grid) (m : Mesh) (s : Store) (marks' : List ℕ) (P : 
   mesh-made build said heads' t' made =
       admits-past left g s (Takes (columns g) m (build (width g) (height g)) s) (left said (store heads' t' marks')) P.fine (P.fits, P.shaped) P.sound
       (inr (P.named, inr (P.inside, rw (P.zeros, ← P.wide, ← P.high) (made s.marks))))
+
+  -- the same, where the slots are given back one by one
+  pub mesh-left : (build : ℕ → ℕ → Field → Meshed) (said : Said) (heads' : List ℕ) (t' : lent.Slots) {free : ℕ} {fl ce ar nx : List ℕ} → GivenBack t' free fl ce ar nx
+      → ((marks : List ℕ) → Builds (w * h) (build w h) (store s.heads s.slots marks) (left said (store heads' (slots_of t') (replicate (length s.slots.nexts) 0))))
+      → Given g m (build (width g) (height g)) s (left said (store heads' (slots free fl ce ar nx) marks'))
+  mesh-left build said heads' t' back made = rw (given-back t' back) (mesh-made build said heads' (slots_of t') made)

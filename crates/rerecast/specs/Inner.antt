@@ -1,5 +1,5 @@
 -- What the inner functions' answers mean. No public contract cites this file.
-use Rattle.std.specs.Prelude.{◌≡◌, true, false, List, ℕ, ◌*◌, ◌≤◌, length, replicate, Option, Some, None, Result, Ok, Err}
+use Rattle.std.specs.Prelude.{◌≡◌, true, false, List, ℕ, ◌≤◌, length, replicate, Option, Some, None, Result, Ok, Err}
 use Rattle.replies.specs.Said.{just, Asks}
 use Rattle.grid.specs.declared.Grid.{Grid}
 use Rattle.grid.specs.declared.sizes.Size.{Size}

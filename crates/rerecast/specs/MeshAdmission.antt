@@ -1,6 +1,6 @@
 -- What the answers of a mesh's tests mean. No public contract cites this file.
 use Rattle.std.specs.Prelude.{◌≡◌, List, ℕ, length, replicate, Result, Ok, Err}
-use Rattle.replies.specs.Said.{Said, real, say, just, Asks}
+use Rattle.replies.specs.Said.{just, Asks}
 use Rattle.grid.specs.declared.Grid.{Grid}
 use Rattle.grid.specs.declared.sizes.Size.{Size}
 use Rattle.grid.specs.Grid.{width, height, columns, grid_says}

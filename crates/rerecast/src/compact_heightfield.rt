@@ -1,7 +1,7 @@
 // The compact result of a field: the open spaces above its walkable spans, column by column, and the links between those of columns side by side.
 ghost use Rattle.std.specs.Prelude.{◌≡◌, cond, ℕ, ◌+◌, ◌*◌, ◌≤◌, ◌<◌, length, get_or, take, replicate, eqb};
 ghost use mathlib.Core.List.{List, map, flatten};
-ghost use Rattle.field.specs.Slots.{none, span_at, slots};
+ghost use Rattle.field.specs.Slots.{none, contents, span_at, slots};
 ghost use Rattle.field.specs.Field.{Field, Holds, Held};
 ghost use Rattle.field.specs.Store.{store};
 ghost use Rattle.field.specs.Inner.{Says, Chain};
@@ -29,7 +29,7 @@ use grid::{Grid, Size};
 fn count_column(columns: &Columns<'_>, areas: &[u8], head: u32) -> usize
     requires even { length areas.now ≡ length columns.now.nexts.now }
     requires is_chain { (ss : List ℕ) × Chain columns.now.nexts.now head ss }
-    ensures { (ss : List ℕ) → Chain columns.now.nexts.now head ss → result ≡ length (opens (map (span_at (contents_in columns.now areas.now)) ss)) }
+    ensures { (floors ceilings ss : List ℕ) → Chain columns.now.nexts.now head ss → result ≡ length (opens (map (span_at (contents floors ceilings areas.now)) ss)) }
 {
     let mut at = head;
     let mut n: usize = 0;
@@ -261,5 +261,13 @@ pub fn into_compact(
         areas: span_areas,
     };
     let top = raised_top(grid, walkable_height);
-    compact_field(&columns, areas, &mut compact, size, top, walkable_height, climb)
+    compact_field(
+        &columns,
+        areas,
+        &mut compact,
+        size,
+        top,
+        walkable_height,
+        climb,
+    )
 }

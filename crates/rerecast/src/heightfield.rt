@@ -17,7 +17,6 @@ use crate::insertion::insert_span;
 use crate::ledges::{Agent, clear_columns};
 use crate::lent::{Columns, Mesh, Slots};
 use crate::mesh_admission::admit_mesh;
-use crate::places::{Cell, column_at};
 use crate::pre_filter::{lower_columns, raise_columns};
 use crate::rasterize::take_mesh;
 use field::{NONE, Span};
@@ -102,16 +101,10 @@ fn offer(
         (left (said_of result) (store heads.new (slots_of slots.new) (replicate (length slots.old.nexts.now) 0))) }
     ensures same_slots { SameSlots slots.old slots.new }
 {
-    if x >= size.width {
-        return Err(Refusal::OffGrid);
-    }
-    if z >= size.height {
-        return Err(Refusal::OffGrid);
-    }
+    let column = size.column(x, z).ok_or(Refusal::OffGrid)?;
     if new.ceiling < new.floor {
         return Err(Refusal::Inverted);
     }
-    let column = column_at(size, Cell { x, z });
     match insert_span(&mut heads[..size.columns()], slots, column, new, threshold) {
         Some(_) => Ok(()),
         None => Err(Refusal::NoSlot),

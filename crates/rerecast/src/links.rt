@@ -156,7 +156,7 @@ fn link_to(compact: &Compact<'_>, side: Side, from: u8, q: Post) -> Found
 
 // The word of an open space with its links to the cells beside.
 fn bind(compact: &Compact<'_>, sides: &[Side; 4], cursors: [u8; 4], q: Post) -> Bound
-    requires within { Within compact.now.ys.now compact.now.words.now sides.now }
+    requires within { (length sides.now ≡ 4) × Within compact.now.ys.now compact.now.words.now sides.now }
     requires left { AllLeft q.tall q.climb q.y compact.now.ys.now compact.now.words.now sides.now cursors }
     ensures { (result.word ≡ word_of (passes q.tall q.climb) (layers_of compact.now.ys.now compact.now.words.now sides.now) (space q.y q.height 0))
         × (result.missed ≡ missed_of (passes q.tall q.climb) (layers_of compact.now.ys.now compact.now.words.now sides.now) (space q.y q.height 0))

@@ -1,5 +1,6 @@
 // The cells beside a column: where each has its open spaces in the compact result.
 ghost use Rattle.std.specs.Prelude.{◌≡◌, map, ◌+◌, ◌*◌, ◌≤◌, ◌<◌, length, IfSome};
+ghost use Rattle.field.specs.Slots.{none};
 ghost use Rattle.field.specs.Beside.{beside};
 ghost use Rattle.grid.specs.Directions.{number_of};
 ghost use Rattle.rerecast.specs.Compacting.{side_of, place_of, Beside};
@@ -16,6 +17,7 @@ pub(crate) struct Side {
 
 // The number of the column beside x, z in a direction, if there is one.
 fn beside_at(size: Size, x: u32, z: u32, direction: Direction) -> Option<usize>
+    requires { (x < size.width) × (z < size.height) }
     ensures { Beside result size.width size.height x z (number_of direction) }
 {
     let (x, z) = size.beside(x, z, direction)?;
@@ -24,7 +26,7 @@ fn beside_at(size: Size, x: u32, z: u32, direction: Direction) -> Option<usize>
 
 // The cell with number `k`, and an empty one where there is none.
 fn side_at(compact: &Compact<'_>, k: Option<usize>) -> Side
-    requires { IfSome k (λ i. (i < length compact.now.indices.now) × (i < length compact.now.counts.now)) }
+    requires { IfSome k (λ i. (i < none) × (i < length compact.now.indices.now) × (i < length compact.now.counts.now)) }
     ensures { result ≡ side_of compact.now.indices.now compact.now.counts.now (place_of k) }
 {
     match k {

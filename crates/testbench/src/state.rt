@@ -1,5 +1,5 @@
 // What the program knows from line to line, the lent slices apart.
-use grid::{Corner, Grid, GridReply};
+use grid::{Corner, Grid};
 
 #[derive(Clone, Copy)]
 pub struct State {
@@ -126,7 +126,10 @@ pub struct Size {
 
 fn size_of(grid: Grid) -> Size {
     match grid::check(grid) {
-        GridReply::Fine(width, height) => Size { width, height },
+        Ok(size) => Size {
+            width: size.width,
+            height: size.height,
+        },
         _ => Size {
             width: 0,
             height: 0,

@@ -5,18 +5,15 @@ use mathlib.Core.List.{List}
 use Prim.Native.Nat.{ℕ, ◌+◌, ◌<◌, ◌≤◌}
 use native.Mathlib.Omega.{arith}
 use lib.IntN.{ℤ}
-use lib.ListN.{length}
 use lib.Ieee.{Float}
 use mir.Syntax.{w16}
 use mir.Val.{SFits, to_z, of_z}
 use Rattle.std.specs.Prelude.{Result, Ok, Err}
 use Rattle.std.proofs.Common.{rules}
 use Rattle.std.proofs.lemmas.Result.{err_from_is_err_and}
-use Rattle.grid.specs.declared.Corner.{Corner}
 use Rattle.clip.specs.declared.frame.Frame.{Frame}
-use Rattle.clip.specs.declared.cut.Counts.{Counts}
 use Rattle.clip.specs.declared.cut.Axis.TheVariants.{Z}
-use Rattle.clip.specs.Arrays.{Arrays, arrays, polygon_at, half, Divided, divide_of}
+use Rattle.clip.specs.Arrays.{Arrays, arrays, polygon_at, half, Divided, divided, divide_of}
 use Rattle.clip.specs.Cell.{flat_at}
 use Rattle.clip.specs.Slices.{edge_of}
 use Rattle.clip.specs.Work.{Event, and_then, edge_at, row_events}
@@ -99,7 +96,9 @@ returns-in_err-count-clause-carries c others f H =
     let v = c.loop-k in
     let a = c.args in
     let i = v.invariant in
-    let cut = cut-is a.job.frame v.k _ _ _ _ (record { sfits = c.number.type_inv }) c.number.ensures c.edge-end.ensures c.divide-d.ensures in
+    let d = c.divide-d in
+    let δ = divided d.result (arrays d.new.xs d.new.ys d.new.zs) (arrays d.new.rx d.new.ry d.new.rz) in
+    let cut = cut-is a.job.frame v.k _ _ _ _ {δ = δ} (record { sfits = c.number.type_inv }) c.number.ensures c.edge-end.ensures d.ensures in
     let now = i.4 others f H in
     rw (p.1, p.2) (stops a.job a.last v.k v.count _ _ _ _ cut i.0 i.1 i.2 c.loop-k-test.true now _ (c.in_err-count.ensures.carries others now.field))
 
@@ -108,7 +107,9 @@ loop-k-preserved c =
     let v = c.loop-k in
     let a = c.args in
     let i = v.invariant in
-    let cut = cut-is a.job.frame v.k _ _ _ _ (record { sfits = c.number.type_inv }) c.number.ensures c.edge-end.ensures c.divide-d.ensures in
+    let d = c.divide-d in
+    let δ = divided d.result (arrays d.new.xs d.new.ys d.new.zs) (arrays d.new.rx d.new.ry d.new.rz) in
+    let cut = cut-is a.job.frame v.k _ _ _ _ {δ = δ} (record { sfits = c.number.type_inv }) c.number.ensures c.edge-end.ensures d.ensures in
     let told = c.in_ok-count.ensures.carries in
     let held = c.requires.held in
     let now = i.4 held.0 held.1.0 held.1.1 in

@@ -1,5 +1,5 @@
 -- `mark_columns` meets its contract.
-use Rattle.field.proofs.Surveying.{surveyed-start, surveyed-broken, surveyed-step, surveyed-end}
+use Rattle.field.proofs.Surveying.{surveyed-start, surveyed-broken, surveyed-step}
 use Rattle.rerecast.proofs.soundness.mark_columns.Goals as goal
 
 pub loop-head-init : goal.loop-head-init

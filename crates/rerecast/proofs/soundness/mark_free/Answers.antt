@@ -1,6 +1,5 @@
 -- `mark_free` meets its contract.
 use mathlib.Core.Path.{refl}
-use native.Mathlib.Omega.{arith}
 use Rattle.field.proofs.Marking.{run_out, run-twice, run_room, run_step, run-less, marking-end}
 use Rattle.rerecast.proofs.soundness.mark_free.Goals as goal
 
