@@ -3,18 +3,17 @@ ghost use Rattle.std.specs.Prelude.{◌≡◌, cond, List, [], map, ℕ, ◌+◌
 ghost use Rattle.field.specs.declared.Span.{Span};
 ghost use Rattle.field.specs.Slots.{span_at};
 ghost use Rattle.field.specs.Field.{Field, spans, Holds, Held};
-ghost use Rattle.grid.specs.Grid.{width, height};
 ghost use Rattle.field.specs.Inner.{Chain, Distinct};
 ghost use Rattle.field.specs.Marks.{Climbs};
 ghost use Rattle.field.specs.Beside.{beside};
-ghost use Rattle.field.specs.LedgeTest.{view, seen, looked, looked_at, tells, ledge};
+ghost use Rattle.field.specs.LedgeTest.{seen, looked, looked_at, tells, ledge};
 ghost use Rattle.field.specs.FilterCode.{roof_at, around, greatest, hollow_of, Inside, Cursor};
 ghost use Rattle.field.specs.Filters.{ruled, assign, firm, ledges};
 ghost use Rattle.rerecast.specs.Lent.{slots_in, contents_in, EvenSlots};
 ghost use Rattle.rerecast.specs.PreFilter.{stand_of, Sees, reach_of, sides_of, Serve, AreCursors, Under, AllUnder, AllSlots};
 
 use crate::lent::Columns;
-use crate::places::{Cell, column_at, next_cell, on_rim};
+use crate::places::{Cell, next_cell, on_rim};
 use crate::pre_filter::{change_byte, has_room, roof_of, within};
 use field::NONE;
 use grid::Size;
@@ -223,7 +222,8 @@ fn hollow_of(floors: &[u16], sides: Sides) -> u16
 
 // The filter on a column that is not at the rim.
 fn clear_inner(columns: &Columns<'_>, areas: &mut [u8], width: usize, column: usize, agent: Agent)
-    requires inside { (0 < column) × (width ≤ column) × (column + width < length columns.now.heads.now) × (column + 1 < length columns.now.heads.now) × (length columns.now.heads.now ≤ 1048576) }
+    requires inside { (0 < column) × (width ≤ column) × (column + width < length columns.now.heads.now) × (column + 1 < length columns.now.heads.now)
+        × (length columns.now.heads.now ≤ 1048576) }
     requires even { length areas.old ≡ length columns.now.nexts.now }
     requires held { (areas₀ : List ℕ) × Held columns.now.heads.now (slots_in columns.now areas₀) }
     ensures { (areas₀ : List ℕ) (f : Field) → Holds columns.now.heads.now (slots_in columns.now areas₀) f → (ss : List ℕ)
@@ -268,19 +268,26 @@ fn clear_all(columns: &Columns<'_>, areas: &mut [u8], head: u32)
     }
 }
 
-// The filter on one column. Many are empty, and in an empty one there is nothing to look for.
-fn clear_column(columns: &Columns<'_>, areas: &mut [u8], size: Size, c: Cell, agent: Agent)
-    requires on_grid { (c.x < size.width) × (c.z < size.height) × (size.width * size.height ≡ length columns.now.heads.now) }
+// The filter on one column, which is at place `c`. Many are empty, and in an empty one there is nothing to look for.
+fn clear_column(
+    columns: &Columns<'_>,
+    areas: &mut [u8],
+    size: Size,
+    c: Cell,
+    column: usize,
+    agent: Agent,
+)
+    requires on_grid { (c.x < size.width) × (c.z < size.height) × (c.x + c.z * size.width ≡ column) × (column < length columns.now.heads.now)
+        × (size.width * size.height ≡ length columns.now.heads.now) }
     requires even { length areas.old ≡ length columns.now.nexts.now }
     requires held { (areas₀ : List ℕ) × Held columns.now.heads.now (slots_in columns.now areas₀) }
     ensures { (areas₀ : List ℕ) (f : Field) → Holds columns.now.heads.now (slots_in columns.now areas₀) f → (ss : List ℕ)
-        → Chain columns.now.nexts.now (get_or columns.now.heads.now (c.x + c.z * size.width) 0) ss
+        → Chain columns.now.nexts.now (get_or columns.now.heads.now column 0) ss
         → areas.new
         ≡ assign areas.old ss
-        (ruled (λ below s above. firm agent.height agent.climb (spans f) (beside size.width size.height (c.x + c.z * size.width)) s above) []
+        (ruled (λ below s above. firm agent.height agent.climb (spans f) (beside size.width size.height column) s above) []
         (map (span_at (contents_in columns.now areas.old)) ss)) }
 {
-    let column = column_at(size, c);
     let head = columns.heads[column];
     if head == NONE {
         return;
@@ -292,7 +299,7 @@ fn clear_column(columns: &Columns<'_>, areas: &mut [u8], size: Size, c: Cell, ag
     }
 }
 
-// The filter on a sound field.
+// The filter on a sound field. The place of a column is kept beside its number, since to divide for it would cost each empty column more.
 pub(crate) fn clear_columns(columns: &Columns<'_>, areas: &mut [u8], size: Size, agent: Agent)
     requires all_columns { size.width * size.height ≡ length columns.now.heads.now }
     requires held { Held columns.now.heads.now (slots_in columns.now areas.old) }
@@ -300,8 +307,8 @@ pub(crate) fn clear_columns(columns: &Columns<'_>, areas: &mut [u8], size: Size,
         → Holds columns.now.heads.now (slots_in columns.now areas.new) (ledges size.width size.height agent.height agent.climb f) }
 {
     let mut c = Cell { x: 0, z: 0 };
-    for _ in columns.heads {
-        clear_column(columns, areas, size, c, agent);
+    for column in 0..size.columns() {
+        clear_column(columns, areas, size, c, column, agent);
         c = next_cell(size, c);
     }
 }

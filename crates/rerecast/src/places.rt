@@ -19,14 +19,6 @@ pub(crate) fn on_rim(size: Size, c: Cell) -> bool
     c.x == 0 || size.height <= c.z + 1 || size.width <= c.x + 1 || c.z == 0
 }
 
-// The number of the column at a place.
-pub(crate) fn column_at(size: Size, c: Cell) -> usize
-    requires { (c.x < size.width) × (c.z < size.height) }
-    ensures { (result ≡ c.x + c.z * size.width) × (result < size.width * size.height) }
-{
-    c.x as usize + c.z as usize * size.width as usize
-}
-
 // The place that follows, row by row.
 pub(crate) fn next_cell(size: Size, c: Cell) -> Cell
     requires { (c.x < size.width) × (size.width ≤ 1048576) × (c.z < 1048576) }

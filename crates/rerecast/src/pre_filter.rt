@@ -1,17 +1,16 @@
 // The filters. They change the areas of spans in columns and nothing else: low obstacles become walkable, and ledges and spans under low ceilings do not
 // stay so. Every area is found from the spans as they were before the filter.
-ghost use Rattle.std.specs.Prelude.{◌≡◌, cond, List, [], map, ℕ, ◌+◌, ◌*◌, ◌<◌, length, get_or, set, ltb, leb};
+ghost use Rattle.std.specs.Prelude.{◌≡◌, cond, List, [], map, ℕ, ◌+◌, ◌<◌, length, get_or, set, ltb, leb};
 ghost use Rattle.field.specs.declared.Span.{Span};
-ghost use Rattle.field.specs.Slots.{none, contents, span_at, slots};
-ghost use Rattle.field.specs.Field.{Field, spans, Holds, Held};
+ghost use Rattle.field.specs.Slots.{none, span_at, slots};
+ghost use Rattle.field.specs.Field.{Field, Holds, Held};
 ghost use Rattle.grid.specs.Grid.{width, height};
 ghost use Rattle.field.specs.Store.{store, left};
 ghost use Rattle.field.specs.Inner.{Chain, Distinct};
-ghost use Rattle.field.specs.LedgeTest.{ledge};
 ghost use Rattle.field.specs.FilterCode.{Beneath, roof_at};
 ghost use Rattle.field.specs.Filters.{ruled, assign, raised, low_obstacles, ledges, roomed, low_ceilings, Filtered};
 ghost use Rattle.rerecast.specs.Answer.{said_of};
-ghost use Rattle.rerecast.specs.Lent.{slots_in, contents_in};
+ghost use Rattle.rerecast.specs.Lent.{slots_in, contents_in, EvenSlots};
 
 use crate::Refusal;
 use crate::admission::admit;
@@ -63,7 +62,8 @@ pub(crate) fn has_room(bottom: u16, height: u16, lid: u16) -> bool
 
 // The area of a span afterwards, from its own ceiling and area and those of the span below it, `ground` being 0 where there is none.
 fn raise(climb: u16, base: u16, ground: u8, ceiling: u16, area: u8) -> u8
-    ensures { (floor : ℕ) (below : List Span) → Beneath base ground below → result ≡ raised climb below (record { floor = floor; ceiling = ceiling; area = area }) }
+    ensures { (floor : ℕ) (below : List Span) → Beneath base ground below
+        → result ≡ raised climb below (record { floor = floor; ceiling = ceiling; area = area }) }
 {
     if area != 0 {
         return area;
@@ -194,7 +194,7 @@ fn lower(height: u16, roof: u16, ceiling: u16, area: u8) -> u8
 
 // The filter on the column that starts at `head`.
 fn lower_column(columns: &Columns<'_>, areas: &mut [u8], head: u32, height: u16)
-    requires even { (length columns.now.floors.now ≡ length columns.now.nexts.now) × (length columns.now.ceilings.now ≡ length columns.now.nexts.now) × (length areas.old ≡ length columns.now.nexts.now) }
+    requires even { EvenSlots columns.now × (length areas.old ≡ length columns.now.nexts.now) }
     requires is_chain { (ss : List ℕ) × (Chain columns.now.nexts.now head ss × Distinct ss) }
     ensures { (ss : List ℕ) → Chain columns.now.nexts.now head ss
         → areas.new ≡ assign areas.old ss (ruled (λ below s above. roomed height s above) [] (map (span_at (contents_in columns.now areas.old)) ss)) }

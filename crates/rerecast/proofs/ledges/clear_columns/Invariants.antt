@@ -8,9 +8,9 @@ use Rattle.field.proofs.Sweeping.{Sweep}
 use Rattle.rerecast.specs.Lent.{slots_in}
 use Rattle.rerecast.proofs.ledges.clear_columns.Given as goal
 
-abbrev pub invariant-loop : goal.invariant-loop
-invariant-loop l =
-    (l.c.x + l.c.z * l.size.width ≡ l.index)
+abbrev pub invariant-loop-column : goal.invariant-loop-column
+invariant-loop-column l =
+    (l.c.x + l.c.z * l.size.width ≡ l.column)
     × (0 < l.size.width → l.c.x < l.size.width)
     × ((f : Field) → Holds l.columns.heads.now (slots_in l.columns l.initial.areas) f
-    → Sweep (λ i below s above. firm l.agent.height l.agent.climb (spans f) (beside l.size.width l.size.height i) s above) f l.areas l.index)
+    → Sweep (λ i below s above. firm l.agent.height l.agent.climb (spans f) (beside l.size.width l.size.height i) s above) f l.areas l.column)
