@@ -1,143 +1,79 @@
 // What a call answered, as a line: the bare values, or in words with the place of a stop.
-use crate::writer::{Out, say, say_bits, say_number};
-use crate::{commands, numbers};
+use crate::Out;
+use crate::commands::Name;
+use crate::numbers::Bits;
 use rerecast::Reply;
+use std::io;
+use std::io::Write;
 
-pub fn say_float(out: &mut Out, x: f32) {
-    say_bits(out, numbers::bits_of(x));
-}
-
-fn say_name(out: &mut Out, code: u32) {
-    match code {
-        commands::FRESH => say(out, b"fresh"),
-        commands::ADD => say(out, b"add"),
-        commands::RASTERIZE => say(out, b"rasterize"),
-        commands::POPULATE => say(out, b"populate"),
-        commands::LOW => say(out, b"low"),
-        commands::LEDGES => say(out, b"ledges"),
-        commands::CEILINGS => say(out, b"ceilings"),
-        _ => say(out, b"compact"),
+// What each reply means.
+fn meaning(reply: Reply) -> &'static str {
+    match reply {
+        Reply::Accepted | Reply::Compacted(_) => "accepted",
+        Reply::BadNumber(_) => "a number is outside its limits",
+        Reply::BoxOrder => "the box's least corner is above its greatest",
+        Reply::GridSize(_, _) => "the grid has too few or too many cells",
+        Reply::Slices => "the lent slices do not fit",
+        Reply::NoSlot | Reply::NoSlotAt(_, _) => "the store is full",
+        Reply::EighthVertex(_, _) => "a cut would write an eighth vertex",
+        Reply::TooHigh(_, _) => "a floor would be 65535",
+        Reply::OffGrid => "the column is outside the grid",
+        Reply::Inverted => "the floor is above the ceiling",
+        Reply::NoVertex => "a face names no vertex",
+        Reply::Crowded => "a column has more than 255 walkable spans",
+        Reply::Layers(_, _) => "links to layers above 62 are left out",
+        Reply::Unsound => "the field is not sound",
+        Reply::SpansShort => "too few compact spans are lent",
     }
-}
-
-fn say_pair(out: &mut Out, a: u32, b: u32) {
-    say(out, b" ");
-    say_number(out, a as u64);
-    say(out, b" ");
-    say_number(out, b as u64);
 }
 
 // The values of a reply, each after a space.
-fn say_values(out: &mut Out, reply: Reply) {
+fn say_values(out: &mut Out, reply: Reply) -> io::Result<()> {
     match reply {
-        Reply::BadNumber(x) => {
-            say(out, b" ");
-            say_float(out, x);
-        }
+        Reply::BadNumber(x) | Reply::Compacted(x) => write!(out, " {}", Bits::from(x)),
         Reply::GridSize(width, height) => {
-            say(out, b" ");
-            say_float(out, width);
-            say(out, b" ");
-            say_float(out, height);
+            write!(out, " {} {}", Bits::from(width), Bits::from(height))
         }
-        Reply::Compacted(y) => {
-            say(out, b" ");
-            say_float(out, y);
-        }
-        Reply::Layers(layer, y) => {
-            say(out, b" ");
-            say_number(out, layer as u64);
-            say(out, b" ");
-            say_float(out, y);
-        }
-        Reply::NoSlotAt(triangle, made) => say_pair(out, triangle, made),
-        Reply::EighthVertex(triangle, made) => say_pair(out, triangle, made),
-        Reply::TooHigh(triangle, made) => say_pair(out, triangle, made),
-        _ => {}
+        Reply::Layers(layer, y) => write!(out, " {layer} {}", Bits::from(y)),
+        Reply::NoSlotAt(triangle, made)
+        | Reply::EighthVertex(triangle, made)
+        | Reply::TooHigh(triangle, made) => write!(out, " {triangle} {made}"),
+        _ => Ok(()),
     }
 }
 
-// What each number means.
-fn say_meaning(out: &mut Out, number: u32) {
-    match number {
-        0 => say(out, b", accepted"),
-        1 => say(out, b", a number is outside its limits"),
-        2 => say(out, b", the box's least corner is above its greatest"),
-        3 => say(out, b", the grid has too few or too many cells"),
-        4 => say(out, b", the lent slices do not fit"),
-        5 => say(out, b", the store is full"),
-        6 => say(out, b", a cut would write an eighth vertex"),
-        7 => say(out, b", a floor would be 65535"),
-        8 => say(out, b", the column is outside the grid"),
-        9 => say(out, b", the floor is above the ceiling"),
-        10 => say(out, b", a face names no vertex"),
-        11 => say(out, b", a column has more than 255 walkable spans"),
-        12 => say(out, b", links to layers above 62 are left out"),
-        14 => say(out, b", the field is not sound"),
-        15 => say(out, b", too few compact spans are lent"),
-        _ => say(out, b", of no known meaning"),
-    }
-}
-
-fn say_stop(out: &mut Out, triangle: u32, made: u32) {
-    say(out, b": triangle ");
-    say_number(out, triangle as u64);
-    say(out, b", after ");
-    say_number(out, made as u64);
-    say(out, b" of its insertions");
-}
-
-fn say_top(out: &mut Out, y: f32) {
-    say(out, b": the box now ends at y ");
-    say_float(out, y);
+fn say_top(out: &mut Out, y: f32) -> io::Result<()> {
+    write!(out, ": the box now ends at y {}", Bits::from(y))
 }
 
 // The values of a reply in words.
-fn say_place(out: &mut Out, reply: Reply) {
+fn say_place(out: &mut Out, reply: Reply) -> io::Result<()> {
     match reply {
-        Reply::BadNumber(x) => {
-            say(out, b": ");
-            say_float(out, x);
-        }
+        Reply::BadNumber(x) => write!(out, ": {}", Bits::from(x)),
         Reply::GridSize(width, height) => {
-            say(out, b": ");
-            say_float(out, width);
-            say(out, b" by ");
-            say_float(out, height);
+            write!(out, ": {} by {}", Bits::from(width), Bits::from(height))
         }
         Reply::Compacted(y) => say_top(out, y),
         Reply::Layers(layer, y) => {
-            say(out, b", the largest is ");
-            say_number(out, layer as u64);
-            say_top(out, y);
+            write!(out, ", the largest is {layer}")?;
+            say_top(out, y)
         }
-        Reply::NoSlotAt(triangle, made) => say_stop(out, triangle, made),
-        Reply::EighthVertex(triangle, made) => say_stop(out, triangle, made),
-        Reply::TooHigh(triangle, made) => say_stop(out, triangle, made),
-        _ => {}
+        Reply::NoSlotAt(triangle, made)
+        | Reply::EighthVertex(triangle, made)
+        | Reply::TooHigh(triangle, made) => {
+            write!(out, ": triangle {triangle}, after {made} of its insertions")
+        }
+        _ => Ok(()),
     }
 }
 
-fn say_rest(out: &mut Out, terse: bool, reply: Reply) {
+pub fn say(out: &mut Out, terse: bool, name: Name, reply: Reply) -> io::Result<()> {
+    write!(out, "{}: reply {}", name.word(), reply.number())?;
     if terse {
-        say_values(out, reply);
+        say_values(out, reply)?;
     } else {
-        say_meaning(out, reply.number());
-        say_place(out, reply);
+        write!(out, ", {}", meaning(reply))?;
+        say_place(out, reply)?;
     }
-}
-
-pub fn answer(out: &mut Out, terse: bool, code: u32, reply: Reply) {
-    say_name(out, code);
-    say(out, b": reply ");
-    say_number(out, reply.number() as u64);
-    say_rest(out, terse, reply);
-    say(out, b"\n");
-}
-
-// A line that the program cannot obey is named by its number.
-pub fn say_line(out: &mut Out, line: u64) {
-    say(out, b"line ");
-    say_number(out, line);
-    say(out, b": ");
+    writeln!(out)
 }
