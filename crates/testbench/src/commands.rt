@@ -4,7 +4,7 @@ use field::Span;
 use grid::Grid;
 use std::fmt;
 
-#[derive(Clone, Copy, PartialEq, Eq)]
+#[derive(Clone, Copy)]
 pub enum Name {
     Case,
     Grid,

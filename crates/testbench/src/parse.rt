@@ -4,6 +4,7 @@ use crate::numbers::Number;
 use crate::words::Words;
 use field::Span;
 use grid::{Corner, Grid};
+use std::mem;
 
 // The command of a line without its comment, if there is one.
 pub fn command<'a>(line: &'a [u8]) -> Result<Option<Command<'a>>, Unread> {
@@ -14,9 +15,6 @@ pub fn command<'a>(line: &'a [u8]) -> Result<Option<Command<'a>>, Unread> {
     let Some(name) = Name::of(word) else {
         return Err(Unread::NoCommand);
     };
-    if name == Name::Case {
-        return Ok(Some(Command::Case(words)));
-    }
     match taken(name, &mut words) {
         Some(command) if words.next().is_none() => Ok(Some(command)),
         _ => Err(Unread::Misused(name)),
@@ -30,7 +28,7 @@ fn number<T: Number>(words: &mut Words<'_>) -> Option<T> {
 // A command with the words that it takes, if each is what it has to be.
 fn taken<'a>(name: Name, words: &mut Words<'a>) -> Option<Command<'a>> {
     let command = match name {
-        Name::Case => Command::Case(*words),
+        Name::Case => Command::Case(mem::take(words)),
         Name::Grid => Command::Grid(grid(words)?),
         Name::Slots => Command::Slots(count(words)?),
         Name::Spans => Command::Spans(count(words)?),

@@ -99,19 +99,19 @@ impl Store {
     }
 }
 
-// As many of a list's first entries, or all that it has.
-pub fn front<T>(all: &Vec<T>, count: usize) -> &[T] {
+// So many of a list's first entries, or all that it has.
+pub fn front<T>(all: &[T], count: usize) -> &[T] {
     &all[..count.min(all.len())]
 }
 
 // The same, to be written.
-pub fn front_mut<T>(all: &mut Vec<T>, count: usize) -> &mut [T] {
+pub fn front_mut<T>(all: &mut [T], count: usize) -> &mut [T] {
     let end = count.min(all.len());
     &mut all[..end]
 }
 
 // Puts an entry among the first `count`, and answers whether there is such a place.
-fn put<T: Copy>(all: &mut Vec<T>, count: usize, i: usize, entry: T) -> bool {
+fn put<T: Copy>(all: &mut [T], count: usize, i: usize, entry: T) -> bool {
     match front_mut(all, count).get_mut(i) {
         Some(place) => {
             *place = entry;

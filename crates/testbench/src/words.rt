@@ -7,7 +7,7 @@ fn is_space(b: u8) -> bool {
 }
 
 // The words that are still to come.
-#[derive(Clone, Copy)]
+#[derive(Clone, Copy, Default)]
 pub struct Words<'a>(&'a [u8]);
 
 impl<'a> Words<'a> {
