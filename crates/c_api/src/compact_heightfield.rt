@@ -4,7 +4,7 @@ ghost use Rattle.field.specs.Store.{store};
 ghost use Rattle.field.specs.Compact.{rows, result_of, outcome, Compacted};
 ghost use Rattle.c_api.specs.Words.{grid_of, Answers};
 
-use crate::answers::{grid_of, tell};
+use crate::answers::{grid_of, tell_top};
 
 #[unsafe(no_mangle)]
 pub extern "C" fn lv_into_compact(
@@ -31,7 +31,7 @@ pub extern "C" fn lv_into_compact(
         (outcome s (store heads.now (slots free.now floors.now ceilings.now areas.now nexts.now) marks.new)
         (result_of cell_indices.new cell_counts.new (rows ys.new «data».new span_areas.new)))) result said.new }
 {
-    let reply = rerecast::compact_heightfield::into_compact(
+    let answer = rerecast::compact_heightfield::into_compact(
         grid_of(grid),
         heads,
         free,
@@ -48,5 +48,5 @@ pub extern "C" fn lv_into_compact(
         walkable_height,
         climb,
     );
-    tell(reply, said)
+    tell_top(answer, said)
 }

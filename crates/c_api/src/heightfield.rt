@@ -24,7 +24,7 @@ pub extern "C" fn lv_fresh(
         (λ s. Freshened (grid_of grid.now) heads.old (slots free.old floors.old ceilings.old areas.old nexts.old)
         (made s heads.new (slots free.new floors.new ceilings.new areas.new nexts.new))) result said.new }
 {
-    let reply = rerecast::heightfield::fresh(
+    let answer = rerecast::heightfield::fresh(
         grid_of(grid),
         heads,
         free,
@@ -33,7 +33,7 @@ pub extern "C" fn lv_fresh(
         areas,
         nexts,
     );
-    tell(reply, said)
+    tell(answer, said)
 }
 
 #[unsafe(no_mangle)]
@@ -64,7 +64,7 @@ pub extern "C" fn lv_add_span(
         ceiling,
         area,
     };
-    let reply = rerecast::heightfield::add_span(
+    let answer = rerecast::heightfield::add_span(
         grid_of(grid),
         heads,
         free,
@@ -78,7 +78,7 @@ pub extern "C" fn lv_add_span(
         new,
         threshold,
     );
-    tell(reply, said)
+    tell(answer, said)
 }
 
 #[unsafe(no_mangle)]
@@ -103,7 +103,7 @@ pub extern "C" fn lv_populate_from_trimesh(
         (store heads.old (slots free.old floors.old ceilings.old areas.old nexts.old) marks.old)
         (left s (store heads.new (slots free.new floors.new ceilings.new areas.new nexts.new) marks.new))) result said.new }
 {
-    let reply = rerecast::heightfield::populate_from_trimesh(
+    let answer = rerecast::heightfield::populate_from_trimesh(
         grid_of(grid),
         heads,
         free,
@@ -118,5 +118,5 @@ pub extern "C" fn lv_populate_from_trimesh(
         walkable_height,
         climb,
     );
-    tell(reply, said)
+    tell(answer, said)
 }

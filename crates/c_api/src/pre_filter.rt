@@ -24,7 +24,7 @@ pub extern "C" fn lv_filter_low_hanging_walkable_obstacles(
         (λ s. Filtered (grid_of grid.now) (low_obstacles climb) (store heads.now (slots free.now floors.now ceilings.now areas.old nexts.now) marks.old)
         (left s (store heads.now (slots free.now floors.now ceilings.now areas.new nexts.now) marks.new))) result said.new }
 {
-    let reply = rerecast::pre_filter::filter_low_hanging_walkable_obstacles(
+    let answer = rerecast::pre_filter::filter_low_hanging_walkable_obstacles(
         grid_of(grid),
         heads,
         free,
@@ -35,7 +35,7 @@ pub extern "C" fn lv_filter_low_hanging_walkable_obstacles(
         marks,
         climb,
     );
-    tell(reply, said)
+    tell(answer, said)
 }
 
 #[unsafe(no_mangle)]
@@ -57,7 +57,7 @@ pub extern "C" fn lv_filter_ledge_spans(
         (store heads.now (slots free.now floors.now ceilings.now areas.old nexts.now) marks.old)
         (left s (store heads.now (slots free.now floors.now ceilings.now areas.new nexts.now) marks.new))) result said.new }
 {
-    let reply = rerecast::pre_filter::filter_ledge_spans(
+    let answer = rerecast::pre_filter::filter_ledge_spans(
         grid_of(grid),
         heads,
         free,
@@ -69,7 +69,7 @@ pub extern "C" fn lv_filter_ledge_spans(
         walkable_height,
         climb,
     );
-    tell(reply, said)
+    tell(answer, said)
 }
 
 #[unsafe(no_mangle)]
@@ -90,7 +90,7 @@ pub extern "C" fn lv_filter_walkable_low_height_spans(
         (store heads.now (slots free.now floors.now ceilings.now areas.old nexts.now) marks.old)
         (left s (store heads.now (slots free.now floors.now ceilings.now areas.new nexts.now) marks.new))) result said.new }
 {
-    let reply = rerecast::pre_filter::filter_walkable_low_height_spans(
+    let answer = rerecast::pre_filter::filter_walkable_low_height_spans(
         grid_of(grid),
         heads,
         free,
@@ -101,5 +101,5 @@ pub extern "C" fn lv_filter_walkable_low_height_spans(
         marks,
         walkable_height,
     );
-    tell(reply, said)
+    tell(answer, said)
 }

@@ -28,7 +28,7 @@ pub extern "C" fn lv_rasterize_triangles(
         (store heads.old (slots free.old floors.old ceilings.old areas.old nexts.old) marks.old)
         (left s (store heads.new (slots free.new floors.new ceilings.new areas.new nexts.new) marks.new))) result said.new }
 {
-    let reply = rerecast::rasterize::rasterize_triangles(
+    let answer = rerecast::rasterize::rasterize_triangles(
         grid_of(grid),
         heads,
         free,
@@ -42,7 +42,7 @@ pub extern "C" fn lv_rasterize_triangles(
         triangle_areas,
         threshold,
     );
-    tell(reply, said)
+    tell(answer, said)
 }
 
 // A mesh of one triangle, by its three corners.
@@ -68,7 +68,7 @@ pub extern "C" fn lv_rasterize_triangle(
 {
     let indices = [0u32, 1, 2];
     let triangle_areas = [area];
-    let reply = rerecast::rasterize::rasterize_triangles(
+    let answer = rerecast::rasterize::rasterize_triangles(
         grid_of(grid),
         heads,
         free,
@@ -82,5 +82,5 @@ pub extern "C" fn lv_rasterize_triangle(
         &triangle_areas,
         threshold,
     );
-    tell(reply, said)
+    tell(answer, said)
 }

@@ -1,20 +1,23 @@
 -- What raising a cell's count replies.
-use Rattle.std.specs.Prelude.{cond, List, ℕ, ltb, get_or}
+use Rattle.std.specs.Prelude.{cond, List, ℕ, Result, Ok, Err, ltb, get_or}
 use Rattle.replies.specs.Said.{Said, just}
-use Rattle.compact_cell.specs.declared.Raised.{Raised}
-use Rattle.compact_cell.specs.declared.Raised.TheVariants.{Yes, Full}
-use Rattle.compact_cell.specs.declared.RaisedAt.{RaisedAt}
-use Rattle.compact_cell.specs.declared.RaisedAt.TheVariants.{Cell, NoCell}
+use Rattle.compact_cell.specs.declared.Full.{Full}
+use Rattle.compact_cell.specs.declared.RaiseError.{RaiseError}
+use Rattle.compact_cell.specs.declared.RaiseError.TheVariants as error
 use Rattle.compact_cell.specs.Cell.{is_cell}
 
--- what each answer says
-abbrev pub said_of : Raised → Said
-said_of Yes = just 0
-said_of Full = just 11
+-- what each answer says, whatever it carries where it accepts
+abbrev pub said_of : {T : Type 0} → Result T Full → Said
+said_of (Ok x) = just 0
+said_of (Err e) = just 11
 
-abbrev pub said_of_at : RaisedAt → Said
-said_of_at (Cell r) = said_of r
-said_of_at NoCell = just 4
+abbrev pub said_of_error : RaiseError → Said
+said_of_error error.NoCell = just 4
+said_of_error error.Full = just 11
+
+abbrev pub said_of_at : {T : Type 0} → Result T RaiseError → Said
+said_of_at (Ok x) = just 0
+said_of_at (Err e) = said_of_error e
 
 -- a count below 255 has room for one more span; at 255 the column is full (reply 11)
 abbrev pub raise_says : ℕ → Said

@@ -1,47 +1,41 @@
 #![tactic(auto)]
 // A compact cell: the place of a column's first compact span, and how many spans the column has.
 // A cell is lent, and its count is raised in place.
-ghost use Rattle.std.specs.Prelude.{◌≡◌, ◌+◌};
-ghost use Rattle.compact_cell.specs.Cell.{cell_of, count_after, raised_cell, raised_counts};
+ghost use Rattle.std.specs.Prelude.{◌≡◌, ◌+◌, OnErr, IfOk};
+ghost use Rattle.compact_cell.specs.Cell.{cell_of, raised_cell, raised_counts};
 ghost use Rattle.compact_cell.specs.Replies.{said_of, said_of_at, raise_says, raise_at_says};
+ghost use Rattle.compact_cell.specs.declared.RaiseError.TheVariants as error;
 
-#[derive(Clone, Copy)]
+use std::ops::Range;
+
+#[derive(Clone, Copy, Debug, PartialEq, Eq)]
 pub struct CompactCell {
     pub index: u32,
     pub count: u8,
 }
 
-// The places of a cell's spans: from `start`, and before `end`.
-#[derive(Clone, Copy)]
-pub struct IndexRange {
-    pub start: usize,
-    pub end: usize,
-}
+// A cell's count can't be raised: it is the largest. Reply 11.
+#[derive(Clone, Copy, Debug, PartialEq, Eq)]
+pub struct Full;
 
-// The answer where a cell's count is raised: `Full` is reply 11.
-#[derive(Clone, Copy)]
-pub enum Raised {
-    Yes,
+// Why the count at a place of lent slices can't be raised: `NoCell`, where the place is past either of them, is reply 4.
+#[derive(Clone, Copy, Debug, PartialEq, Eq)]
+pub enum RaiseError {
+    NoCell,
     Full,
 }
 
-// A cell with the answer beside it.
-#[derive(Clone, Copy)]
-pub struct RaisedCell {
-    pub cell: CompactCell,
-    pub reply: Raised,
-}
+impl From<Full> for RaiseError {
+    ghost from_gives = { λ _ e. e ≡ error.Full };
 
-// The answer where the cell stands at a place of lent slices: `NoCell` is reply 4.
-#[derive(Clone, Copy)]
-pub enum RaisedAt {
-    Cell(Raised),
-    NoCell,
+    fn from(_full: Full) -> RaiseError {
+        RaiseError::Full
+    }
 }
 
 impl CompactCell {
     // The most spans that a column may have.
-    pub const MAX_COUNT: u8 = 255;
+    pub const MAX_COUNT: u8 = u8::MAX;
 
     pub fn new(index: u32, count: u8) -> Self
         ensures { result ≡ cell_of index count }
@@ -64,91 +58,53 @@ impl CompactCell {
     pub fn set_index(self, index: u32) -> Self
         ensures { result ≡ cell_of index self.count }
     {
-        CompactCell {
-            index,
-            count: self.count,
-        }
+        CompactCell { index, ..self }
     }
 
     pub fn set_count(self, count: u8) -> Self
         ensures { result ≡ cell_of self.index count }
     {
-        CompactCell {
-            index: self.index,
-            count,
-        }
+        CompactCell { count, ..self }
     }
 
     // Where the cell's spans stand. The sum can't overflow: both numbers are far below the range of usize.
-    pub fn index_range(self) -> IndexRange
+    pub fn index_range(self) -> Range<usize>
         ensures { (result.start ≡ self.index) × (result.end ≡ self.index + self.count) }
     {
         let start = self.index as usize;
-        IndexRange {
-            start,
-            end: start + self.count as usize,
-        }
+        start..start + self.count as usize
     }
 
     // One more span in a lent cell: at the largest count it stays, with reply 11.
-    pub fn inc_count(&mut self) -> Raised
+    pub fn inc_count(&mut self) -> Result<(), Full>
         ensures { (self.new ≡ raised_cell self.old) × (said_of result ≡ raise_says self.old.count) }
     {
-        let count = self.count;
-        self.count = next_count(count);
-        reply_for(count)
+        self.count = self.count.checked_add(1).ok_or(Full)?;
+        Ok(())
     }
 
     // The same of a cell by value: it lends its own copy, so that a caller needs no reference to a cell.
-    pub fn raise(self) -> RaisedCell
-        ensures { (result.cell ≡ raised_cell self) × (said_of result.reply ≡ raise_says self.count) }
+    // On a refusal the cell that was passed stays as it is, so none is handed back.
+    pub fn raise(self) -> Result<Self, Full>
+        ensures reply { said_of result ≡ raise_says self.count }
+        ensures raised { IfOk result (λ cell. cell ≡ raised_cell self) }
+        ensures stays { OnErr result (self ≡ raised_cell self) }
     {
         let mut cell = self;
-        let reply = cell.inc_count();
-        RaisedCell { cell, reply }
-    }
-}
-
-// The count with one more span; the largest stays.
-fn next_count(count: u8) -> u8
-    ensures { result ≡ count_after count }
-{
-    if count < CompactCell::MAX_COUNT {
-        count + 1
-    } else {
-        CompactCell::MAX_COUNT
-    }
-}
-
-// Whether a count has room for one more span.
-fn reply_for(count: u8) -> Raised
-    ensures { said_of result ≡ raise_says count }
-{
-    if count < CompactCell::MAX_COUNT {
-        Raised::Yes
-    } else {
-        Raised::Full
+        cell.inc_count()?;
+        Ok(cell)
     }
 }
 
 // One more span in the cell at a place of the lent slices: refused (4) past either of them.
-pub fn raise_at(indices: &[u32], counts: &mut [u8], place: usize) -> RaisedAt
+// A cell's two numbers are in two slices, since C lends them so.
+pub fn raise_at(indices: &[u32], counts: &mut [u8], place: usize) -> Result<(), RaiseError>
     ensures counts_after { counts.new ≡ raised_counts indices.now counts.old place }
     ensures result_value { said_of_at result ≡ raise_at_says indices.now counts.old place }
 {
-    if indices.len() <= place {
-        return RaisedAt::NoCell;
-    }
-    if counts.len() <= place {
-        return RaisedAt::NoCell;
-    }
-    let cell = CompactCell {
-        index: indices[place],
-        count: counts[place],
-    };
-    let raised = cell.raise();
-    let after = raised.cell;
-    counts[place] = after.count;
-    let reply = raised.reply;
-    RaisedAt::Cell(reply)
+    let index = indices.get(place).copied().ok_or(RaiseError::NoCell)?;
+    let count = counts.get(place).copied().ok_or(RaiseError::NoCell)?;
+    let cell = CompactCell::new(index, count).raise()?;
+    counts[place] = cell.count;
+    Ok(())
 }

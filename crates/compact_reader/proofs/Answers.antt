@@ -1,92 +1,77 @@
 -- Two answers that say the same are the same, and each reader has one outcome.
-use mathlib.Core.Path.{◌≡◌, refl, sym, ap, ◌∙◌}
-use mathlib.Core.Bool.{true, cond}
-use mathlib.Core.List.{List, [], ◌∷◌}
-use Prim.Native.Nat.{ℕ, ◌<◌, ◌≤◌}
-use lib.Dec.{eqb}
-use lib.ListN.{length}
+use Rattle.std.proofs.Common.{◌≡◌, ℕ, ◌<◌, ◌≤◌, true, cond, eqb, List, [], ◌∷◌, length, Result, Ok, Err, refl, sym, ap, ◌∙◌}
 use Rattle.replies.specs.Said.{Said, Value, whole, real, just}
 use Rattle.replies.proofs.Laws.{One, asks-one}
 use Rattle.grid.specs.declared.Grid.{Grid}
+use Rattle.grid.specs.declared.GridError.TheVariants.{BadNumber, BoxOrder, GridSize}
 use Rattle.grid.specs.Grid.{width, height, columns, grid_says}
 use Rattle.grid.specs.Directions.{stays}
+use Rattle.grid.proofs.Answers.{read_back}
+use Rattle.compact_cell.specs.declared.CompactCell.{CompactCell}
 use Rattle.compact_cell.specs.Cell.{cell_of}
+use Rattle.compact_reader.specs.declared.Neighbour.{Neighbour}
 use Rattle.compact_reader.specs.declared.Refusal.{Refusal}
 use Rattle.compact_reader.specs.declared.Refusal.TheVariants as refusal
-use Rattle.compact_reader.specs.declared.CellAt.{CellAt}
-use Rattle.compact_reader.specs.declared.CellAt.TheVariants as cell_at
-use Rattle.compact_reader.specs.declared.ConIndices.{ConIndices}
-use Rattle.compact_reader.specs.declared.ConIndices.TheVariants as conIndices
-use Rattle.compact_reader.specs.Answer.{said_of_cell_at, said_of_con_indices}
+use Rattle.compact_reader.specs.Answer.{said_of_refusal, said_of_cell_at, said_of_con_indices}
 use Rattle.compact_reader.specs.Reading.{Reads, CellAtSays, StepSays, ConIndicesSays}
 
 -- ---- an answer can be read back from its number and its values
 
-abbrev outside : List Value → Refusal
-outside [] = refusal.BoxOrder
-outside (whole n ∷ vs) = refusal.BoxOrder
-outside (real x ∷ vs) = refusal.BadNumber x
-
-abbrev sized : List Value → Refusal
-sized [] = refusal.BoxOrder
-sized (whole n ∷ vs) = refusal.BoxOrder
-sized (real w ∷ []) = refusal.BoxOrder
-sized (real w ∷ whole n ∷ vs) = refusal.BoxOrder
-sized (real w ∷ real h ∷ vs) = refusal.GridSize w h
-
 abbrev refusal_of : Said → Refusal
 refusal_of s =
     let n = s.number in
-    cond (eqb n 1) (outside s.values)
-    (cond (eqb n 2) refusal.BoxOrder
-    (cond (eqb n 3) (sized s.values)
-    (cond (eqb n 4) refusal.Slices
-    (cond (eqb n 8) refusal.OffGrid refusal.NoLink))))
+    cond (eqb n 4) refusal.Slices
+    (cond (eqb n 8) refusal.OffGrid
+    (cond (eqb n 13) refusal.NoLink (refusal.Grid (read_back s.values))))
 
-abbrev cell_of_values : List Value → CellAt
-cell_of_values (whole i ∷ whole n ∷ vs) = cell_at.Cell (cell_of i n)
-cell_of_values (whole i ∷ real n ∷ vs) = cell_at.Refused refusal.BoxOrder
-cell_of_values (whole i ∷ []) = cell_at.Refused refusal.BoxOrder
-cell_of_values (real i ∷ vs) = cell_at.Refused refusal.BoxOrder
-cell_of_values [] = cell_at.Refused refusal.BoxOrder
+refusal-back : (r : Refusal) → refusal_of (said_of_refusal r) ≡ r
+refusal-back (refusal.Grid (BadNumber x)) = refl
+refusal-back (refusal.Grid BoxOrder) = refl
+refusal-back (refusal.Grid (GridSize w h)) = refl
+refusal-back refusal.Slices = refl
+refusal-back refusal.OffGrid = refl
+refusal-back refusal.NoLink = refl
 
-abbrev neighbour_of_values : List Value → ConIndices
-neighbour_of_values (whole x ∷ whole z ∷ whole s ∷ vs) = conIndices.At (record { x = x; z = z; span = s })
-neighbour_of_values (whole x ∷ whole z ∷ real s ∷ vs) = conIndices.Refused refusal.BoxOrder
-neighbour_of_values (whole x ∷ whole z ∷ []) = conIndices.Refused refusal.BoxOrder
-neighbour_of_values (whole x ∷ real z ∷ vs) = conIndices.Refused refusal.BoxOrder
-neighbour_of_values (whole x ∷ []) = conIndices.Refused refusal.BoxOrder
-neighbour_of_values (real x ∷ vs) = conIndices.Refused refusal.BoxOrder
-neighbour_of_values [] = conIndices.Refused refusal.BoxOrder
+abbrev whole_of : List Value → ℕ
+whole_of (whole n ∷ vs) = n
+whole_of (real x ∷ vs) = 0
+whole_of [] = 0
 
-abbrev cell_read : Said → CellAt
-cell_read s = cond (eqb s.number 0) (cell_of_values s.values) (cell_at.Refused (refusal_of s))
+abbrev rest_of : List Value → List Value
+rest_of (v ∷ vs) = vs
+rest_of [] = []
 
-abbrev neighbour_read : Said → ConIndices
-neighbour_read s = cond (eqb s.number 0) (neighbour_of_values s.values) (conIndices.Refused (refusal_of s))
+abbrev cell_read : Said → Result CompactCell Refusal
+cell_read s =
+    let v = s.values in
+    cond (eqb s.number 0) (Ok (cell_of (whole_of v) (whole_of (rest_of v)))) (Err (refusal_of s))
 
-cell-back : (a : CellAt) → cell_read (said_of_cell_at a) ≡ a
-cell-back (cell_at.Cell c) = refl
-cell-back (cell_at.Refused (refusal.BadNumber x)) = refl
-cell-back (cell_at.Refused refusal.BoxOrder) = refl
-cell-back (cell_at.Refused (refusal.GridSize w h)) = refl
-cell-back (cell_at.Refused refusal.Slices) = refl
-cell-back (cell_at.Refused refusal.OffGrid) = refl
-cell-back (cell_at.Refused refusal.NoLink) = refl
+abbrev neighbour_read : Said → Result Neighbour Refusal
+neighbour_read s =
+    let v = s.values in
+    cond (eqb s.number 0) (Ok (record { x = whole_of v; z = whole_of (rest_of v); span = whole_of (rest_of (rest_of v)) })) (Err (refusal_of s))
 
-neighbour-back : (a : ConIndices) → neighbour_read (said_of_con_indices a) ≡ a
-neighbour-back (conIndices.At n) = refl
-neighbour-back (conIndices.Refused (refusal.BadNumber x)) = refl
-neighbour-back (conIndices.Refused refusal.BoxOrder) = refl
-neighbour-back (conIndices.Refused (refusal.GridSize w h)) = refl
-neighbour-back (conIndices.Refused refusal.Slices) = refl
-neighbour-back (conIndices.Refused refusal.OffGrid) = refl
-neighbour-back (conIndices.Refused refusal.NoLink) = refl
+-- a refusal's number is not 0
+refused : {A : Type 0} (r : Refusal) (a b : A) → cond (eqb (said_of_refusal r).number 0) a b ≡ b
+refused (refusal.Grid (BadNumber x)) a b = refl
+refused (refusal.Grid BoxOrder) a b = refl
+refused (refusal.Grid (GridSize w h)) a b = refl
+refused refusal.Slices a b = refl
+refused refusal.OffGrid a b = refl
+refused refusal.NoLink a b = refl
 
-pub cell-at-once : (a b : CellAt) → said_of_cell_at a ≡ said_of_cell_at b → a ≡ b
+cell-back : (a : Result CompactCell Refusal) → cell_read (said_of_cell_at a) ≡ a
+cell-back (Ok c) = refl
+cell-back (Err r) = refused r _ _ ∙ ap Err (refusal-back r)
+
+neighbour-back : (a : Result Neighbour Refusal) → neighbour_read (said_of_con_indices a) ≡ a
+neighbour-back (Ok n) = refl
+neighbour-back (Err r) = refused r _ _ ∙ ap Err (refusal-back r)
+
+pub cell-at-once : (a b : Result CompactCell Refusal) → said_of_cell_at a ≡ said_of_cell_at b → a ≡ b
 cell-at-once a b e = sym (cell-back a) ∙ ap cell_read e ∙ cell-back b
 
-pub con-indices-once : (a b : ConIndices) → said_of_con_indices a ≡ said_of_con_indices b → a ≡ b
+pub con-indices-once : (a b : Result Neighbour Refusal) → said_of_con_indices a ≡ said_of_con_indices b → a ≡ b
 con-indices-once a b e = sym (neighbour-back a) ∙ ap neighbour_read e ∙ neighbour-back b
 
 -- ---- no second outcome

@@ -1,11 +1,11 @@
 -- What the readers of a compact result answer. They only read, so a call is what it says.
-use Rattle.std.specs.Prelude.{◌≡◌, true, List, ℕ, ◌+◌, ◌*◌, ◌<◌, ◌≤◌, length, get_or}
+use Rattle.std.specs.Prelude.{◌≡◌, true, List, ℕ, ◌+◌, ◌*◌, ◌<◌, ◌≤◌, length, get_or, Result, Ok, Err}
 use Rattle.replies.specs.Said.{Said, just, Asks}
 use Rattle.grid.specs.declared.Grid.{Grid}
 use Rattle.grid.specs.Grid.{width, height, columns, grid_says}
 use Rattle.grid.specs.Directions.{step_x, step_z, stays}
-use Rattle.compact_reader.specs.declared.Locus.{Locus}
-use Rattle.compact_reader.specs.declared.Locus.TheVariants.{On, Off}
+use Rattle.grid.specs.declared.sizes.Size.{Size}
+use Rattle.compact_reader.specs.declared.Refusal.{Refusal}
 use Rattle.compact_reader.specs.Answer.{cell_said, neighbour_said, said_of_refusal}
 
 -- both make these tests first: 1, 2, 3; then 4, where `Fitted` is what the call asks of its slices; then 8
@@ -39,21 +39,17 @@ ConIndicesSays g indices x z d con = Reads g (columns g ≤ length indices) x z 
 
 -- ---- the shared tests, as one inner function makes them of the shortest slice; no public contract cites these
 
--- on the grid, with its width and height
-pub record Stands (g : Grid) (shortest x z w h : ℕ) : Type 0 where
+-- on the grid, with its size and the column's number
+pub record Stands (g : Grid) (shortest x z : ℕ) (s : Size) (column : ℕ) : Type 0 where
   pub taken : (grid_says g).number ≡ 0
-  pub wide : w ≡ width g
-  pub high : h ≡ height g
+  pub wide : s.width ≡ width g
+  pub high : s.height ≡ height g
   pub fits : columns g ≤ shortest
   pub at_x : x < width g
   pub at-z : z < height g
-  pub few : columns g ≤ 1048576
+  pub number : column ≡ x + z * width g
+  pub inside : column < columns g
 
-abbrev pub Locates : Locus → Grid → ℕ → ℕ → ℕ → Type 0
-Locates (On w h) g shortest x z = Stands g shortest x z w h
-Locates (Off r) g shortest x z = Reads g (columns g ≤ shortest) x z (λ o. ⊥) (said_of_refusal r)
-
--- the same past the grid's tests
-abbrev pub LocatesIn : Locus → ℕ → ℕ → ℕ → ℕ → ℕ → Type 0
-LocatesIn (On w' h') w h shortest x z = ((w' ≡ w) × (h' ≡ h)) × ((w * h ≤ shortest) × ((x < w) × (z < h)))
-LocatesIn (Off r) w h shortest x z = Asks (w * h ≤ shortest) (just 4) (Asks ((x < w) × (z < h)) (just 8) (λ o. ⊥)) (said_of_refusal r)
+abbrev pub Locates : Result (Size × ℕ) Refusal → Grid → ℕ → ℕ → ℕ → Type 0
+Locates (Ok p) g shortest x z = Stands g shortest x z p.0 p.1
+Locates (Err r) g shortest x z = Reads g (columns g ≤ shortest) x z (λ o. ⊥) (said_of_refusal r)

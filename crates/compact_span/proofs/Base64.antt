@@ -1,6 +1,7 @@
 -- Words as numbers: what digits in base 64 make and how they come back, so that a word has one height and one list of links.
 use mathlib.Core.Path.{◌≡◌, refl, sym, ap, ap₂, ◌∙◌, subst}
-use mathlib.Core.List.{List, [], ◌∷◌}
+use mathlib.Core.List.{List, [], ◌∷◌, map, reverse}
+use Rattle.std.specs.List.{fold}
 use Prim.Native.Nat.{ℕ, zero, suc, ◌+◌, ◌*◌, ◌/◌, ◌%◌, ◌^◌, ◌<◌}
 use native.Mathlib.Nat.{le_of_suc-le-suc, not-suc-le-zero, suc-mul, mul_comm, mul_left_comm, div-one, add_comm}
 use native.Mathlib.Omega.{arith}
@@ -89,3 +90,16 @@ held-is l h = omega arith
 pub word_held : (h a b c d : ℕ) → a < 64 → b < 64 → c < 64 → d < 64
     → word h (held a ∷ held b ∷ held c ∷ held d ∷ []) ≡ word h (a ∷ b ∷ c ∷ d ∷ [])
 word_held h a b c d ha hb hc hd = rw (held-is a ha, held-is b hb, held-is c hc, held-is d hd)
+
+-- one link more below the 26 bits that stay of what is packed
+abbrev pub push : ℕ → ℕ → ℕ
+push upper l = held l + 64 * (upper % 2 ^ 26)
+
+-- links that go in from the last to the first make the word of the height and the four links
+pub push-links : (h : ℕ) (ls : List ℕ) → h < 256 → length ls ≡ 4 → fold push h (reverse ls) ≡ word h (map held ls)
+push-links h (a ∷ b ∷ c ∷ d ∷ []) hh e = omega arith
+push-links h [] hh e = absurd (omega arith)
+push-links h (a ∷ []) hh e = absurd (omega arith)
+push-links h (a ∷ b ∷ []) hh e = absurd (omega arith)
+push-links h (a ∷ b ∷ c ∷ []) hh e = absurd (omega arith)
+push-links h (a ∷ b ∷ c ∷ d ∷ l ∷ ls) hh e = absurd (omega arith)

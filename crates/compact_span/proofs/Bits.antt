@@ -86,10 +86,11 @@ height-law x h hh =
 pub new-law : (h : ℕ) → h < 256 → bit_or ((h * 2 ^ 24) % 2 ^ 32) (2 ^ 24 - 1) ≡ word h no_links
 new-law h hh = ap (λ (n : ℕ). bit_or n (2 ^ 24 - 1)) (shl_exact {a = h} 8 24 32 hh (lit≤ tt)) ∙ or_shifted h 24 (2 ^ 24 - 1) (lit< tt)
 
--- `below` puts one link below what is packed already
-pub below-law : (u l : ℕ) → u < 2 ^ 26 → l < 64 → bit_or ((u * 2 ^ 6) % 2 ^ 32) l ≡ l + 64 * u
-below-law u l hu hl =
-    ap (λ (n : ℕ). bit_or n l) (shl_exact {a = u} 26 6 32 hu (lit≤ tt)) ∙ or_shifted u 6 l hl ∙ omega (arith, mul_comm u 64)
+-- `below` puts one link below the 26 bits that stay of what is packed already
+pub below-law : (u l : ℕ) → l < 64 → bit_or ((u * 2 ^ 6) % 2 ^ 32) l ≡ l + 64 * (u % 2 ^ 26)
+below-law u l hl =
+    let shifted : (u * 2 ^ 6) % 2 ^ 32 ≡ u % 2 ^ 26 * 2 ^ 6 = omega arith in
+    ap (λ (n : ℕ). bit_or n l) shifted ∙ or_shifted (u % 2 ^ 26) 6 l hl ∙ omega (arith, mul_comm (u % 2 ^ 26) 64)
 
 -- `con` reads a link
 pub con-law : (x d : ℕ) → d < 4 → bit_and (x / 2 ^ (d * 6)) (2 ^ 6 - 1) ≡ get_or (links x) d 0

@@ -1,36 +1,19 @@
 #![tactic(auto)]
 // A compact span: the height where its open space starts, and one word that packs four links of six bits and a height of eight.
-ghost use Rattle.std.specs.Prelude.{◌≡◌, [], ◌∷◌, ◌+◌, ◌*◌, ◌^◌, ◌<◌};
+ghost use Rattle.std.specs.Prelude.{◌≡◌, ◌+◌, ◌*◌, ◌%◌, ◌^◌, ◌<◌, map};
 ghost use Rattle.compact_span.specs.Word.{word, height_of, gap_of, held};
 ghost use Rattle.compact_span.specs.Span.{fresh_span, with_link, with_height};
 ghost use Rattle.compact_span.specs.Replies.{said_of_linked, said_of_con, set_con_says, con_says};
 
-#[derive(Clone, Copy)]
+#[derive(Clone, Copy, Debug, PartialEq, Eq)]
 pub struct CompactSpan {
     pub y: u16,
     pub data: u32,
 }
 
-// Where a direction leads: nowhere, or to a layer of the neighbour cell.
-#[derive(Clone, Copy)]
-pub enum Link {
-    Empty,
-    To(u8),
-}
-
-// The answer of `set_con`: `Refused` is reply 13.
-#[derive(Clone, Copy)]
-pub enum Linked {
-    Set(CompactSpan),
-    Refused,
-}
-
-// The answer of `con`: `Refused` is reply 13.
-#[derive(Clone, Copy)]
-pub enum Con {
-    Link(Link),
-    Refused,
-}
+// A direction above 3, or a layer above 62: reply 13.
+#[derive(Clone, Copy, Debug, PartialEq, Eq)]
+pub struct NoLink;
 
 impl CompactSpan {
     // The largest height that the word can hold.
@@ -39,7 +22,7 @@ impl CompactSpan {
     // The mark of an empty link.
     pub const NOT_CONNECTED: u8 = 63;
 
-    // Directions are 0 to 3.
+    // Directions are 0 to 3. They are numbers, and no enum, since `con` and `set_con` promise an answer to any other: 13.
     const LAST_DIRECTION: u8 = 3;
 
     // A span with no links.
@@ -56,15 +39,7 @@ impl CompactSpan {
     pub fn gap(ceiling: u16, top: u16) -> u8
         ensures { result ≡ gap_of ceiling top }
     {
-        if top <= ceiling {
-            return 0;
-        }
-        let open = top - ceiling;
-        if (Self::MAX_HEIGHT as u16) < open {
-            Self::MAX_HEIGHT
-        } else {
-            open as u8
-        }
+        top.saturating_sub(ceiling).min(Self::MAX_HEIGHT as u16) as u8
     }
 
     // The height in a bare word.
@@ -75,24 +50,19 @@ impl CompactSpan {
     }
 
     // The bare word of a height and a link number for each direction; a number above 63 counts as empty.
-    pub fn with_links(height: u8, link0: u8, link1: u8, link2: u8, link3: u8) -> u32
-        ensures { result ≡ word height (held link0 ∷ held link1 ∷ held link2 ∷ held link3 ∷ []) }
+    // They are numbers, and no options, since the contract says what becomes of any number, also of one that is no link.
+    pub fn with_links(height: u8, links: [u8; 4]) -> u32
+        ensures { result ≡ word height (map held links) }
     {
-        let upper = Self::below(Self::below(height as u32, link3), link2);
-        Self::below(Self::below(upper, link1), link0)
+        let from_last = links.iter().rev();
+        from_last.fold(height as u32, |upper, link| Self::below(upper, *link))
     }
 
-    // One more link below what is packed already.
+    // One more link below what is packed already. Of that, 26 bits stay.
     fn below(upper: u32, link: u8) -> u32
-        requires { upper < 2 ^ 26 }
-        ensures { result ≡ held link + 64 * upper }
+        ensures { result ≡ held link + 64 * (upper % 2 ^ 26) }
     {
-        let number = if link < Self::NOT_CONNECTED {
-            link
-        } else {
-            Self::NOT_CONNECTED
-        };
-        (upper << 6) | (number as u32)
+        (upper << 6) | (link.min(Self::NOT_CONNECTED) as u32)
     }
 
     pub fn height(self) -> u8
@@ -110,36 +80,29 @@ impl CompactSpan {
         }
     }
 
-    // The link of a direction: refused (13) above 3.
-    pub fn con(self, dir: u8) -> Con
+    // The link of a direction, a layer or nothing where it is empty: refused (13) above 3.
+    pub fn con(self, dir: u8) -> Result<Option<u8>, NoLink>
         ensures { said_of_con result ≡ con_says self dir }
     {
         if Self::LAST_DIRECTION < dir {
-            return Con::Refused;
+            return Err(NoLink);
         }
         let shift = (dir as u32) * 6;
-        let number = (self.data >> shift) & 0x3f;
-        if number == Self::NOT_CONNECTED as u32 {
-            return Con::Link(Link::Empty);
-        }
-        Con::Link(Link::To(number as u8))
+        let number = ((self.data >> shift) & 0x3f) as u8;
+        Ok((number != Self::NOT_CONNECTED).then_some(number))
     }
 
     // The span with the link of a direction changed: refused (13) above direction 3 or layer 62.
-    pub fn set_con(self, dir: u8, link: Link) -> Linked
+    pub fn set_con(self, dir: u8, link: Option<u8>) -> Result<Self, NoLink>
         ensures { said_of_linked result ≡ set_con_says self dir link }
     {
         if Self::LAST_DIRECTION < dir {
-            return Linked::Refused;
+            return Err(NoLink);
         }
         match link {
-            Link::Empty => Linked::Set(self.put(dir, Self::NOT_CONNECTED)),
-            Link::To(layer) => {
-                if Self::NOT_CONNECTED <= layer {
-                    return Linked::Refused;
-                }
-                Linked::Set(self.put(dir, layer))
-            }
+            None => Ok(self.put(dir, Self::NOT_CONNECTED)),
+            Some(layer) if layer < Self::NOT_CONNECTED => Ok(self.put(dir, layer)),
+            Some(_) => Err(NoLink),
         }
     }
 

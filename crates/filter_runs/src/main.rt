@@ -1,224 +1,130 @@
 #![tactic(auto)]
 // The rules' examples of the filters, run: the reply, and the areas that are left.
 use field::NONE;
-use grid::{Corner, Grid};
-use rerecast::{Reply, pre_filter};
+use grid::Grid;
+use rerecast::Refusal;
+use runs::{Store, cells, number};
 use std::io;
-
-fn say(rt: &impl Print, s: &[u8]) -> io::Result<()> {
-    rt.write_all(s)
-}
-
-fn say_number(rt: &impl Print, n: u64) -> io::Result<()> {
-    rt.print(n)
-}
-
-fn say_byte(rt: &impl Print, b: u8) -> io::Result<()> {
-    say_number(rt, b as u64)
-}
-
-// An area in a field of four.
-fn say_area(rt: &impl Print, area: u8) -> io::Result<()> {
-    if area < 10 {
-        say(rt, b"   ")?;
-    } else if area < 100 {
-        say(rt, b"  ")?;
-    } else {
-        say(rt, b" ")?;
-    }
-    say_byte(rt, area)
-}
-
-fn number(r: Reply) -> u64 {
-    r.number() as u64
-}
-
-// A square of cells, `side` wide and deep.
-fn square(side: f32) -> Grid {
-    Grid {
-        min: Corner {
-            x: 0.0,
-            y: 0.0,
-            z: 0.0,
-        },
-        max: Corner {
-            x: side,
-            y: 64.0,
-            z: side,
-        },
-        cell_size: 1.0,
-        cell_height: 1.0,
-    }
-}
 
 // ---- ledges
 
-// What a run leaves: slot k is column k's, and the last is free.
-#[derive(Drop)]
-struct Nine {
-    reply: Reply,
-    areas: [u8; 10],
-    marks: [u8; 10],
-}
-
-// The filter on 3 × 3 columns of one span each, from 0 to its ceiling, area 255, for walkable height 2.
-fn clear_nine(ceilings: [u16; 10], free: u32, climb: u16) -> Nine {
-    let heads: [u32; 9] = [0, 1, 2, 3, 4, 5, 6, 7, 8];
-    let floors = [0u16; 10];
-    let nexts = [NONE; 10];
-    let mut areas: [u8; 10] = [255, 255, 255, 255, 255, 255, 255, 255, 255, 77];
-    let mut marks = [1u8; 10];
-    let reply = pre_filter::filter_ledge_spans(
-        square(3.0),
-        &heads,
-        &free,
-        &floors,
-        &ceilings,
-        &mut areas,
-        &nexts,
-        &mut marks,
-        2,
-        climb,
-    );
-    Nine {
-        reply,
-        areas,
-        marks,
-    }
-}
-
-fn say_row(rt: &impl Print, a: u8, b: u8, c: u8) -> io::Result<()> {
-    say(rt, b"     ")?;
-    say_area(rt, a)?;
-    say_area(rt, b)?;
-    say_area(rt, c)?;
-    say(rt, b"\n")
-}
+// 3 x 3 columns of one span each, from 0 to its ceiling, and a free slot.
+const LEVEL: Store<9, 10> = Store {
+    heads: [0, 1, 2, 3, 4, 5, 6, 7, 8],
+    free: 9,
+    floors: [0; 10],
+    ceilings: [10, 10, 10, 10, 10, 10, 10, 10, 10, 0],
+    areas: [255, 255, 255, 255, 255, 255, 255, 255, 255, 77],
+    nexts: [NONE; 10],
+};
 
 // A run's name, its reply, the free slot's area, and the areas as they lie on the grid, x from left to right.
-fn try_nine(
-    rt: &impl Print,
-    name: &[u8],
-    ceilings: [u16; 10],
-    free: u32,
-    climb: u16,
-) -> io::Result<()> {
-    let ran = clear_nine(ceilings, free, climb);
-    let reply = ran.reply;
-    let a = ran.areas;
-    let m = ran.marks;
-    say(rt, name)?;
-    say(rt, b": reply ")?;
-    say_number(rt, number(reply))?;
-    say(rt, b", first mark ")?;
-    say_byte(rt, m[0])?;
-    say(rt, b", free slot's area ")?;
-    say_byte(rt, a[9])?;
-    say(rt, b"\n")?;
-    say_row(rt, a[0], a[1], a[2])?;
-    say_row(rt, a[3], a[4], a[5])?;
-    say_row(rt, a[6], a[7], a[8])
+fn try_ledges(rt: &impl Print, name: &str, mut store: Store<9, 10>, climb: u16) -> io::Result<()> {
+    let mut marks = [1; 10];
+    let answer = store.filter_ledge_spans(cells(3.0, 64.0, 3.0), &mut marks, 2, climb);
+    let number = number(answer);
+    let free = store.areas[9];
+    println!(rt;
+        "  {name}: reply {number}, first mark {}, free slot's area {free}",
+        marks[0]
+    )?;
+    for row in store.areas[..9].chunks(3) {
+        print!(rt; "     ")?;
+        for area in row {
+            print!(rt; "{area:4}")?;
+        }
+        println!(rt; "")?;
+    }
+    Ok(())
 }
 
-fn try_ledges(rt: &impl Print) -> io::Result<()> {
-    say(
+fn ledges(rt: &impl Print) -> io::Result<()> {
+    let east = Store {
+        ceilings: [10, 10, 10, 10, 10, 5, 10, 10, 10, 0],
+        ..LEVEL
+    };
+    let both = Store {
+        ceilings: [10, 10, 10, 12, 10, 5, 10, 10, 10, 0],
+        ..LEVEL
+    };
+    println!(rt; "ledges: 3 x 3 columns of [0,10], area 255, walkable height 2")?;
+    try_ledges(rt, "climb 5", LEVEL, 5)?;
+    try_ledges(rt, "climb 5, east [0,5]", east, 5)?;
+    try_ledges(rt, "climb 4, east [0,5]", east, 4)?;
+    try_ledges(rt, "climb 5, east [0,5], west [0,12]", both, 5)?;
+    try_ledges(
         rt,
-        b"ledges: 3 x 3 columns of [0,10], area 255, walkable height 2\n",
-    )?;
-    let level: [u16; 10] = [10, 10, 10, 10, 10, 10, 10, 10, 10, 0];
-    let east: [u16; 10] = [10, 10, 10, 10, 10, 5, 10, 10, 10, 0];
-    let both: [u16; 10] = [10, 10, 10, 12, 10, 5, 10, 10, 10, 0];
-    try_nine(rt, b"  climb 5", level, 9, 5)?;
-    try_nine(rt, b"  climb 5, east [0,5]", east, 9, 5)?;
-    try_nine(rt, b"  climb 4, east [0,5]", east, 9, 4)?;
-    try_nine(rt, b"  climb 5, east [0,5], west [0,12]", both, 9, 5)?;
-    try_nine(rt, b"  climb 5, a slot in no chain", level, NONE, 5)
+        "climb 5, a slot in no chain",
+        Store {
+            free: NONE,
+            ..LEVEL
+        },
+        5,
+    )
 }
 
 // ---- one column
 
-// What a run leaves of a column of three slots.
-#[derive(Drop)]
-struct Three {
-    reply: Reply,
-    areas: [u8; 3],
+type Column = Store<1, 3>;
+
+fn one_cell() -> Grid {
+    cells(1.0, 64.0, 1.0)
 }
 
-fn say_three(rt: &impl Print, name: &[u8], ran: Three) -> io::Result<()> {
-    let reply = ran.reply;
-    let a = ran.areas;
-    say(rt, name)?;
-    say(rt, b": reply ")?;
-    say_number(rt, number(reply))?;
-    say(rt, b", areas")?;
-    say_area(rt, a[0])?;
-    say_area(rt, a[1])?;
-    say_area(rt, a[2])?;
-    say(rt, b"\n")
+fn areas(
+    rt: &impl Print,
+    name: &str,
+    answer: Result<(), Refusal>,
+    column: Column,
+) -> io::Result<()> {
+    let [low, middle, high] = column.areas;
+    println!(rt;
+        "  {name}: reply {}, areas{low:4}{middle:4}{high:4}",
+        number(answer)
+    )
 }
 
-fn try_obstacles(rt: &impl Print, name: &[u8], climb: u16) -> io::Result<()> {
-    let heads: [u32; 1] = [0];
-    let floors: [u16; 3] = [0, 3, 5];
-    let ceilings: [u16; 3] = [1, 4, 6];
-    let nexts: [u32; 3] = [1, 2, NONE];
-    let mut areas: [u8; 3] = [5, 0, 0];
-    let mut marks = [1u8; 3];
-    let reply = pre_filter::filter_low_hanging_walkable_obstacles(
-        square(1.0),
-        &heads,
-        &NONE,
-        &floors,
-        &ceilings,
-        &mut areas,
-        &nexts,
-        &mut marks,
-        climb,
-    );
-    say_three(rt, name, Three { reply, areas })
+fn obstacles(rt: &impl Print) -> io::Result<()> {
+    println!(rt; "low obstacles: [0,1] area 5, [3,4] area 0, [5,6] area 0")?;
+    for (name, climb) in [("climb 3", 3), ("climb 2", 2)] {
+        let mut column = Column {
+            heads: [0],
+            free: NONE,
+            floors: [0, 3, 5],
+            ceilings: [1, 4, 6],
+            areas: [5, 0, 0],
+            nexts: [1, 2, NONE],
+        };
+        let answer = column.filter_low_hanging_walkable_obstacles(one_cell(), &mut [1; 3], climb);
+        areas(rt, name, answer, column)?;
+    }
+    Ok(())
 }
 
 // The highest span has the open top above it, and the others the next floor.
-fn try_ceilings(rt: &impl Print, name: &[u8], marks: &mut [u8], height: u16) -> io::Result<()> {
-    let heads: [u32; 1] = [0];
-    let floors: [u16; 3] = [0, 7, 65530];
-    let ceilings: [u16; 3] = [1, 65520, 65530];
-    let nexts: [u32; 3] = [1, 2, NONE];
-    let mut areas: [u8; 3] = [7, 8, 9];
-    let reply = pre_filter::filter_walkable_low_height_spans(
-        square(1.0),
-        &heads,
-        &NONE,
-        &floors,
-        &ceilings,
-        &mut areas,
-        &nexts,
-        marks,
-        height,
-    );
-    say_three(rt, name, Three { reply, areas })
+fn try_ceilings(rt: &impl Print, name: &str, marks: &mut [u8], height: u16) -> io::Result<()> {
+    let mut column = Column {
+        heads: [0],
+        free: NONE,
+        floors: [0, 7, 65530],
+        ceilings: [1, 65520, 65530],
+        areas: [7, 8, 9],
+        nexts: [1, 2, NONE],
+    };
+    let answer = column.filter_walkable_low_height_spans(one_cell(), marks, height);
+    areas(rt, name, answer, column)
 }
 
-fn try_columns(rt: &impl Print) -> io::Result<()> {
-    say(
-        rt,
-        b"low obstacles: [0,1] area 5, [3,4] area 0, [5,6] area 0\n",
-    )?;
-    try_obstacles(rt, b"  climb 3", 3)?;
-    try_obstacles(rt, b"  climb 2", 2)?;
-    say(
-        rt,
-        b"low ceilings: [0,1] area 7, [7,65520] area 8, [65530,65530] area 9\n",
-    )?;
-    let mut three = [1u8; 3];
-    let mut two = [1u8; 2];
-    try_ceilings(rt, b"  walkable height 5", &mut three, 5)?;
-    try_ceilings(rt, b"  walkable height 6", &mut three, 6)?;
-    try_ceilings(rt, b"  walkable height 7", &mut three, 7)?;
-    try_ceilings(rt, b"  walkable height 7, a mark too few", &mut two, 7)
+fn ceilings(rt: &impl Print) -> io::Result<()> {
+    println!(rt; "low ceilings: [0,1] area 7, [7,65520] area 8, [65530,65530] area 9")?;
+    try_ceilings(rt, "walkable height 5", &mut [1; 3], 5)?;
+    try_ceilings(rt, "walkable height 6", &mut [1; 3], 6)?;
+    try_ceilings(rt, "walkable height 7", &mut [1; 3], 7)?;
+    try_ceilings(rt, "walkable height 7, a mark too few", &mut [1; 2], 7)
 }
 
 fn main(rt: HostRuntime) -> io::Result<()> {
-    try_ledges(&rt)?;
-    try_columns(&rt)
+    ledges(&rt)?;
+    obstacles(&rt)?;
+    ceilings(&rt)
 }

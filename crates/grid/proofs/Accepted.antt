@@ -2,17 +2,18 @@
 use mathlib.Core.Path.{◌≡◌, refl, sym, ap, ◌∙◌}
 use mathlib.Core.Bool.{Bool, true, false, cond}
 use mathlib.Core.List.{List, [], ◌∷◌}
+use Rattle.std.proofs.Common.{Result, Ok, Err}
 use Prim.Native.Nat.{ℕ, suc, ◌≤◌, ◌<◌}
 use native.Mathlib.Omega.{arith}
-use lib.Ieee.{Float, lt}
+use lib.Ieee.{lt}
 use Rattle.replies.specs.Said.{Said, Value, whole, real, say, just}
 use Rattle.grid.specs.Grid.{coordinate_ok, cell_ok, width, height, columns, sized, box_above, size_says, first_outside, Tested, numbers, grid_says}
-use Rattle.grid.specs.Answer.{said_of}
+use Rattle.grid.specs.Answer.{said_of, said_of_error}
 use Rattle.grid.specs.declared.Corner.{Corner}
 use Rattle.grid.specs.declared.Grid.{Grid}
-use Rattle.grid.specs.declared.GridReply.{GridReply}
-use Rattle.grid.specs.declared.GridReply.TheVariants.{Fine, BadNumber, BoxOrder, GridSize}
-use Rattle.grid.proofs.Answers.{said-once}
+use Rattle.grid.specs.declared.sizes.Size.{Size}
+use Rattle.grid.specs.declared.GridError.{GridError}
+use Rattle.grid.proofs.Answers.{is_refusal, said-once}
 use Rattle.grid.proofs.Cells.{width-le, height-le, size-facts}
 use Rattle.grid.proofs.Replies.{Inside, all_pass, says-zero}
 use Rattle.ops.proofs.Tests.{none_of}
@@ -87,28 +88,24 @@ accepted g e =
 
 -- ---- what an answer of `check` tells its caller
 
-module _ (g : Grid) (r : GridReply) (says : said_of r ≡ grid_says g) where
-  pub fine : (w h : ℕ) → r ≡ Fine w h → Accepted g × ((w ≡ width g) × (h ≡ height g))
-  fine w h e =
-      let fact : grid_says g ≡ said_of (Fine w h) = sym says ∙ ap said_of e in
+-- an accepted grid's size
+abbrev pub size_of : (g : Grid) → Accepted g → Size
+size_of g a = record { width = width g; height = height g; few = a.columns-le }
+
+module _ (g : Grid) (r : Result Size GridError) (says : said_of r ≡ grid_says g) where
+  pub fine : (s : Size) → r ≡ Ok s → Accepted g × ((s.width ≡ width g) × (s.height ≡ height g))
+  fine s e =
+      let fact : grid_says g ≡ said_of (Ok s) = sym says ∙ ap said_of e in
       let a = accepted g (ap (λ (s : Said). s.number) fact) in
-      let same : (whole w ∷ whole h ∷ []) ≡ (whole (width g) ∷ whole (height g) ∷ []) = ap (λ (s : Said). s.values) (sym fact ∙ a.said) in
+      let same : (whole s.width ∷ whole s.height ∷ []) ≡ (whole (width g) ∷ whole (height g) ∷ []) = ap (λ (s : Said). s.values) (sym fact ∙ a.said) in
       (a, (cc, cc))
 
   -- an accepted grid has no other answer
-  pub answered : Accepted g → r ≡ Fine (width g) (height g)
-  answered a = said-once r (Fine (width g) (height g)) (says ∙ a.said)
+  pub answered : (a : Accepted g) → r ≡ Ok (size_of g a)
+  answered a = said-once r (Ok (size_of g a)) (says ∙ a.said)
 
-  -- every other answer is a refusal, with what it says
-  pub bad-number : (x : Float) → r ≡ BadNumber x → grid_says g ≡ say 1 (real x ∷ [])
-  bad-number x e = sym says ∙ ap said_of e
-
-  pub box-order : r ≡ BoxOrder → grid_says g ≡ just 2
-  box-order e = sym says ∙ ap said_of e
-
-  pub grid-size : (w h : Float) → r ≡ GridSize w h → grid_says g ≡ say 3 (real w ∷ real h ∷ [])
-  grid-size w h e = sym says ∙ ap said_of e
-
--- a refusal's number is not 0
-pub refused : (g : Grid) (n : ℕ) (vs : List Value) → grid_says g ≡ say (suc n) vs → (grid_says g).number ≡ 0 → ⊥
-refused g n vs e z = omega (arith, sym (ap (λ (s : Said). s.number) e) ∙ z)
+  -- every other answer is a refusal, and says so
+  pub refused : (e : GridError) → r ≡ Err e → ((grid_says g).number ≡ 0 → ⊥) × (said_of_error e ≡ grid_says g)
+  refused e q =
+      let fact : said_of_error e ≡ grid_says g = ap said_of (sym q) ∙ says in
+      (λ z. is_refusal e (ap (λ (s : Said). s.number) fact ∙ z), fact)

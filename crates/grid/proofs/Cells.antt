@@ -1,45 +1,32 @@
 -- Of a whole number that counts from 1 to 4,096, of a grid's width and height, and of their product.
-use mathlib.Core.Path.{◌≡◌, refl}
-use mathlib.Core.Bool.{Bool, true, false, cond, ◌&&◌, true≢false}
+use mathlib.Core.Path.{◌≡◌, refl, sym}
+use mathlib.Core.Bool.{Bool, true, false, cond, ◌&&◌, true≢false, and-false}
 use Prim.Native.Nat.{ℕ, ◌*◌, ◌^◌, ◌≤◌, ◌<◌}
 use native.Mathlib.Omega.{arith}
 use native.Mathlib.Nat.{mul-le-mul}
-use lib.Dec.{T, ltb, leb}
+use lib.Dec.{ltb, leb}
 use lib.IntN.{ℤ, pos, negsuc, nat_abs}
-use lib.Signed.{lt_z, non_neg}
-use borrow.Author.Tests.{ltb-true, ltb-false, leb-true, le-leb, lt-leb}
+use lib.Signed.{le_z}
+use borrow.Author.Tests.{ltb-true, leb-true, le-leb, lt-leb, lt-ltb}
 use lib.Ieee.{to_signed}
 use Rattle.grid.specs.Grid.{or_none, size_ok, width, height, width_float, height_float}
 use Rattle.ops.proofs.Tests.{both}
 use Rattle.grid.specs.declared.Grid.{Grid}
 
-pub none-low : (n : ℤ) → lt_z n (pos 1) ≡ true → 0 ≡ or_none n
-unfolding or_none
-none-low (pos n) h = rw (lt-leb 1 n (ltb-true n 1 h))
-none-low (negsuc n) h = refl
+-- ---- by the two tests of the code
 
-pub none-high : (n : ℤ) → lt_z (pos 4096) n ≡ true → 0 ≡ or_none n
+pub counted : (n : ℤ) → le_z (pos 1) n ≡ true → le_z n (pos 4096) ≡ true → (nat_abs n ≡ or_none n) × (0 < nat_abs n)
 unfolding or_none
-none-high (pos n) h =
-    let a : 4096 < n = ltb-true 4096 n h in
-    rw (le-leb 1 n (omega arith), lt-leb n 4096 a)
-none-high (negsuc n) h = refl
+counted (pos n) h k = (rw (h, k) refl, leb-true 1 n h)
+counted (negsuc n) h k = absurd (true≢false (sym h))
 
--- one inside the limits
-pub record Some (n : ℤ) : Type 0 where
-  pub itself : nat_abs n ≡ or_none n
-  pub positive : T (non_neg n)
-  pub small : nat_abs n ≤ 4096
-
-pub some : (n : ℤ) → lt_z n (pos 1) ≡ false → lt_z (pos 4096) n ≡ false → Some n
+pub too_low : (n : ℤ) → le_z (pos 1) n ≡ false → or_none n ≡ 0
 unfolding or_none
-some (pos n) h k =
-    record {
-      itself = rw (le-leb 1 n (ltb-false n 1 h), le-leb n 4096 (ltb-false 4096 n k));
-      positive = tt;
-      small = ltb-false 4096 n k;
-    }
-some (negsuc n) h k = absurd (true≢false h)
+too_low n h = rw h refl
+
+pub too-high : (n : ℤ) → le_z (pos 1) n ≡ true → le_z n (pos 4096) ≡ false → or_none n ≡ 0
+unfolding or_none
+too-high n h k = rw (h, k) refl
 
 pub or_none-le : (n : ℤ) → or_none n ≤ 4096
 unfolding or_none
@@ -70,3 +57,19 @@ size-facts w h e =
     let one = both (ltb 0 w) _ e in
     let two = both (ltb 0 h) _ one.1 in
     (ltb-true 0 w one.0, (ltb-true 0 h two.0, leb-true (w * h) 1048576 two.1))
+
+pub is_size : (w h : ℕ) → 0 < w → 0 < h → w * h ≤ 1048576 → size_ok w h ≡ true
+unfolding size_ok
+is_size w h a b c = rw (lt-ltb 0 w a, lt-ltb 0 h b, le-leb (w * h) 1048576 c)
+
+pub too-many : (w h : ℕ) → 0 < w → 0 < h → 1048576 < w * h → size_ok w h ≡ false
+unfolding size_ok
+too-many w h a b c = rw (lt-ltb 0 w a, lt-ltb 0 h b, lt-leb (w * h) 1048576 c)
+
+pub no_width : (w h : ℕ) → w ≡ 0 → size_ok w h ≡ false
+unfolding size_ok
+no_width w h e = rw e
+
+pub no_height : (w h : ℕ) → h ≡ 0 → size_ok w h ≡ false
+unfolding size_ok
+no_height w h e = rw (e, and-false (ltb 0 w))

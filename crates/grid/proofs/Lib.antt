@@ -1,9 +1,9 @@
 pub mod Tests
 pub mod Cells
-pub mod Outside
 pub mod Replies
 pub mod Answers
 pub mod Accepted
 pub mod Finite
 pub mod Tried
 pub mod Places
+pub mod FirstOutside

@@ -1,23 +1,27 @@
 -- What the answers of this crate's functions say: the number and the values of the rules. Definitions only.
-use Rattle.std.specs.Prelude.{◌≡◌, List, [], ◌∷◌}
+use Rattle.std.specs.Prelude.{◌≡◌, List, [], ◌∷◌, Option, Some, None, Result, Ok, Err, Float}
 use Rattle.replies.specs.Said.{Said, whole, real, say, just}
 use Rattle.grid.specs.Grid.{Tested, first_outside}
-use Rattle.grid.specs.declared.GridReply.{GridReply}
-use Rattle.grid.specs.declared.GridReply.TheVariants.{Fine, BadNumber, BoxOrder, GridSize}
-use Rattle.grid.specs.declared.Limits.{Limits}
-use Rattle.grid.specs.declared.Limits.TheVariants.{Inside, Outside}
+use Rattle.grid.specs.declared.sizes.Size.{Size}
+use Rattle.grid.specs.declared.GridError.{GridError}
+use Rattle.grid.specs.declared.GridError.TheVariants.{BadNumber, BoxOrder, GridSize}
 
-abbrev pub said_of : GridReply → Said
-said_of (Fine w h) = say 0 (whole w ∷ whole h ∷ [])
-said_of (BadNumber x) = say 1 (real x ∷ [])
-said_of BoxOrder = just 2
-said_of (GridSize w h) = say 3 (real w ∷ real h ∷ [])
+-- a refusal: 1, 2 or 3
+abbrev pub said_of_error : GridError → Said
+said_of_error (BadNumber x) = say 1 (real x ∷ [])
+said_of_error BoxOrder = just 2
+said_of_error (GridSize w h) = say 3 (real w ∷ real h ∷ [])
+
+-- 0 with the width and the height, or the refusal
+abbrev pub said_of : Result Size GridError → Said
+said_of (Ok s) = say 0 (whole s.width ∷ whole s.height ∷ [])
+said_of (Err e) = said_of_error e
 
 -- reply 1 where a number outside was found, and what comes next where none was
-abbrev pub unless : Limits → Said → Said
-unless Inside next = next
-unless (Outside x) next = say 1 (real x ∷ [])
+abbrev pub unless : Option Float → Said → Said
+unless None next = next
+unless (Some x) next = say 1 (real x ∷ [])
 
 -- r is what a test of these numbers finds
-abbrev pub Finds : Limits → List Tested → Type 0
+abbrev pub Finds : Option Float → List Tested → Type 0
 Finds r ts = (next : Said) → unless r next ≡ first_outside ts next

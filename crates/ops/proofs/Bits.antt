@@ -1,9 +1,9 @@
 -- The bit pattern of an `f32` x that is at least 1 and below 2 ^ 31: its exponent's field says how far to shift its digits, with the leading one put back, and the shifted digits are x in units of 2 ^ -23.
 -- (`std::num` is proved in the same way for an `f64`.)
-use Rattle.std.proofs.Common.{◌≡◌, ℕ, zero, suc, ◌+◌, ◌-◌, ◌*◌, ◌/◌, ◌%◌, ◌^◌, ◌<◌, ◌≤◌, Bool, true, false, cond, not, T, eqb, leb, sym, refl, ap, ◌∙◌, subst, true≢false, le_trans, le_of_eq, lt_of_lt_of_le, le-add_right, lt_of_le_of_lt, lt_irrefl, mul-le-mul_right, mod-lt, mod-eq_of_lt, mul_assoc, mul_comm, mul-le-mul, lt_of_mul-lt-mul_right, mul-lt-mul_of_pos_right, one-mul, lt_of_not-le, mul_right_comm, le_of_mul-le-mul_right, arith, lit≤, lt→ltb, pow_pos, pow_mono, pow-add, shl_lt, shl_exact, leb-false}
+use Rattle.std.proofs.Common.{◌≡◌, ℕ, zero, suc, ◌+◌, ◌-◌, ◌*◌, ◌/◌, ◌%◌, ◌^◌, ◌<◌, ◌≤◌, Bool, true, false, cond, T, eqb, leb, sym, refl, ap, ◌∙◌, subst, true≢false, le_trans, le_of_eq, lt_of_lt_of_le, le-add_right, lt_of_le_of_lt, lt_irrefl, mul-le-mul_right, mod-lt, mod-eq_of_lt, mul_assoc, mul_comm, mul-le-mul, lt_of_mul-lt-mul_right, mul-lt-mul_of_pos_right, one-mul, lt_of_not-le, mul_right_comm, le_of_mul-le-mul_right, arith, lit≤, lt→ltb, pow_pos, pow_mono, pow-add, shl_lt, shl_exact, leb-false}
 use native.Mathlib.Nat.{eq_of_mul-eq-mul_right}
 use lib.Bits.{bit_and, bit_or, and_mask, or_shifted_r}
-use lib.Ieee.{Float, nan, inf, fin, binary32, up, down, odd, fits, is_nan, of_fields, of_bits, to_bits, lt, eq, le}
+use lib.Ieee.{Float, nan, inf, fin, binary32, up, down, odd, fits, of_fields, of_bits, to_bits, lt, eq, le}
 use lib.Ieee.Fits.{down_pos}
 use lib.Ieee.Bits.{of_bits-to_bits, to_bits-lt}
 use lib.Ieee.Exact.{HasValue, odd_sign}
@@ -133,12 +133,6 @@ under-room q i h k = omega (arith, mul-le-mul below (pow_mono k))
     below : q ≤ 16777215
     below = omega arith
 
-finite : (y : Float) → T (positive y) → T (not (is_nan y))
-unfolding is_nan
-finite nan p = absurd p
-finite (inf s) p = absurd p
-finite (fin s m e) p = tt
-
 -- the body of `scaled`, of a pattern b
 abbrev shifted_of : ℕ → ℕ
 shifted_of b = bit_or (bit_and b (2 ^ 23 - 1)) (2 ^ 23) * 2 ^ (b / 2 ^ 23 - 127) % 2 ^ 64
@@ -153,9 +147,6 @@ module _ (x : Float) (F : T (fits binary32 x)) (a : le (most 0) x ≡ true) (c :
   shape =
       subst (λ (k : Float). Shape b k) (of_bits-to_bits binary32 x F)
       (shape_of b (subst Within (sym (of_bits-to_bits binary32 x F)) (within x a c)))
-
-  pub is_no_nan : T (not (is_nan x))
-  is_no_nan = finite x (within x a c).0
 
   pub bits_fit : b < 2 ^ 64
   bits_fit = lt_of_lt_of_le (to_bits-lt binary32 x F) (lit≤ tt)

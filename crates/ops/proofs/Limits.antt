@@ -1,6 +1,6 @@
 -- What the tests of a float against 1, against 2 ^ h and against 0 say of its fraction; and tests of a float as tests of its negation.
 use Rattle.std.proofs.Common.{◌≡◌, ℕ, ◌+◌, ◌*◌, ◌^◌, ◌<◌, ◌≤◌, Bool, true, false, not, ltb, ℤ, pos, sym, refl, ap, ◌∙◌, true≢false, add_comm, mul-pos, one-mul, zero-mul, arith, pow_pos, ltb-false, ltb-true}
-use lib.Ieee.{Float, nan, inf, fin, up, down, below, lt, le, eq, neg, is_nan}
+use lib.Ieee.{Float, nan, inf, fin, up, down, below, lt, le, neg, is_nan}
 use lib.Ieee.Fits.{down_pos}
 use borrow.Author.Tests.{not-true, not-false}
 use Rattle.ops.specs.Order.{exactly}
@@ -96,33 +96,13 @@ neg-number nan = refl
 neg-number (inf s) = refl
 neg-number (fin s m e) = refl
 
-nan-le : (x : Float) → le x nan ≡ false
-unfolding le lt eq
-nan-le nan = refl
-nan-le (inf s) = refl
-nan-le (fin s m e) = refl
-
-numbers-flip : (x y : Float) → is_nan x ≡ false → is_nan y ≡ false → le x (neg y) ≡ le y (neg x)
-numbers-flip x y p q = le_total x (neg y) p (neg-number y ∙ q) ∙ ap not (lt-flips y x) ∙ sym (le_total y (neg x) q (neg-number x ∙ p))
-
--- for a y that is not NaN
-le-flips : (x y : Float) → is_nan y ≡ false → le x (neg y) ≡ le y (neg x)
-unfolding is_nan neg le lt eq
-le-flips nan y q = sym (nan-le y)
-le-flips (inf s) y q = numbers-flip (inf s) y refl q
-le-flips (fin s m e) y q = numbers-flip (fin s m e) y refl q
-
--- at most -1, and not above -1 where it is below 0
-pub minus-one-flips : (x : Float) → le x (neg (most 0)) ≡ le (most 0) (neg x)
-unfolding is_nan
-minus-one-flips x = le-flips x (most 0) refl
-
 below-number : (x : Float) → lt x nought ≡ true → is_nan x ≡ false
 unfolding is_nan lt
 below-number nan a = absurd (true≢false (sym a))
 below-number (inf s) a = refl
 below-number (fin s m e) a = refl
 
+-- at most -1: below 0, and not above -1
 pub at_most_minus_one : (x : Float) → lt x nought ≡ true → lt (neg (most 0)) x ≡ false → le (most 0) (neg x) ≡ true
 unfolding is_nan
 at_most_minus_one x a b = le_total (most 0) (neg x) refl (neg-number x ∙ below-number x a) ∙ ap not (sym (lt-flips (most 0) x) ∙ b)

@@ -1,56 +1,36 @@
--- Truncation, floor and ceil by the tests of x against 0, 1 and 2 ^ h. Each is one rounding, `rounded`, that differs only in what it does with a fraction of either sign.
-use Rattle.std.proofs.Common.{◌≡◌, ℕ, ◌*◌, ◌/◌, ◌^◌, ◌<◌, ◌≤◌, min, Bool, true, false, ℤ, pos, negsuc, neg_ℤ, sym, refl, ap, ◌∙◌, subst, true≢false, le_trans, le_refl, one-mul, le-div_iff_mul-le, arith, pow_pos, pow_mono}
+-- Rounding by the tests of x against 0, 1 and 2 ^ h, whichever way a fraction of either sign goes; truncation, floor and ceil are three of these.
+use Rattle.std.proofs.Common.{◌≡◌, ℕ, ◌*◌, ◌/◌, ◌^◌, ◌<◌, ◌≤◌, min, Bool, true, false, cond, ◌⊎◌, inl, inr, ℤ, pos, negsuc, neg_ℤ, sym, refl, ap, ◌∙◌, subst, true≢false, le_trans, le_refl, one-mul, le-div_iff_mul-le, arith, pow_pos, pow_mono}
 use native.Mathlib.Nat.{div-eq_of_lt}
 use lib.Signed.{mag}
 use lib.Ieee.{Float, nan, inf, fin, up, down, lt, le, eq, neg, to_signed}
 use lib.Ieee.Positive.{num, den}
 use lib.Ieee.Fits.{down_pos}
-use Rattle.ops.specs.Round.{held, end_of, toward, away, floor_to, ceil_to}
+use Rattle.ops.specs.Round.{held, end_of, toward, away, fraction, rounded_to, floor_to, ceil_to}
 use Rattle.ops.proofs.Fractions.{away-ge, away-le, away-one}
 use Rattle.ops.proofs.Given.{minus-in}
 use Rattle.ops.proofs.Limits.{most, nought, under-most, beyond-most, not-at-least, not_negative, some_below, none_below, not-below, some-above, none_above, not-above}
 
--- what becomes of a fraction with the sign s
-abbrev pub Way : Type 0
-Way = Bool → ℕ → ℕ → ℕ
+pub truncation_is : (h : ℕ) (x : Float) → to_signed h x ≡ rounded_to h false false x
+unfolding to_signed rounded_to
+truncation_is h nan = refl
+truncation_is h (inf true) = refl
+truncation_is h (inf false) = refl
+truncation_is h (fin true m e) = refl
+truncation_is h (fin false m e) = refl
 
-abbrev pub rounded : ℕ → Way → Float → ℤ
-rounded h g nan = pos 0
-rounded h g (inf s) = end_of h s
-rounded h g (fin s m e) = held h s (g s (m * up e) (down e))
+pub floor_is : (h : ℕ) (x : Float) → floor_to h x ≡ rounded_to h false true x
+unfolding floor_to rounded_to
+floor_is h nan = refl
+floor_is h (inf s) = refl
+floor_is h (fin true m e) = refl
+floor_is h (fin false m e) = refl
 
-abbrev pub inward : Way
-inward s = toward
-
-abbrev pub downward : Way
-downward true = away
-downward false = toward
-
-abbrev pub upward : Way
-upward true = toward
-upward false = away
-
-pub truncation-is : (h : ℕ) (x : Float) → to_signed h x ≡ rounded h inward x
-unfolding to_signed
-truncation-is h nan = refl
-truncation-is h (inf true) = refl
-truncation-is h (inf false) = refl
-truncation-is h (fin true m e) = refl
-truncation-is h (fin false m e) = refl
-
-pub floor-is : (h : ℕ) (x : Float) → floor_to h x ≡ rounded h downward x
-unfolding floor_to
-floor-is h nan = refl
-floor-is h (inf s) = refl
-floor-is h (fin true m e) = refl
-floor-is h (fin false m e) = refl
-
-pub ceil-is : (h : ℕ) (x : Float) → ceil_to h x ≡ rounded h upward x
-unfolding ceil_to
-ceil-is h nan = refl
-ceil-is h (inf s) = refl
-ceil-is h (fin true m e) = refl
-ceil-is h (fin false m e) = refl
+pub ceil_is : (h : ℕ) (x : Float) → ceil_to h x ≡ rounded_to h true false x
+unfolding ceil_to rounded_to
+ceil_is h nan = refl
+ceil_is h (inf s) = refl
+ceil_is h (fin true m e) = refl
+ceil_is h (fin false m e) = refl
 
 -- ---- from 1 on, for y and for its negation
 
@@ -71,22 +51,16 @@ signed-twice true (inf false) = refl
 signed-twice true (fin true m e) = refl
 signed-twice true (fin false m e) = refl
 
--- no way leaves less than the whole part
-abbrev Kept : Way → Type 0
-Kept g = (s : Bool) (n d : ℕ) → 0 < d → n / d ≤ g s n d
+-- neither way leaves less than the whole part
+whole-part : (f : Bool) (n d : ℕ) → 0 < d → n / d ≤ fraction f n d
+whole-part true n d p = away-ge n d p
+whole-part false n d p = le_refl (n / d)
 
-pub inward-kept : Kept inward
-inward-kept s n d p = le_refl (n / d)
+-- away from zero or not, by the sign
+abbrev pub by_sign : Bool → Bool → Bool → Bool
+by_sign above below s = cond s below above
 
-pub downward-kept : Kept downward
-downward-kept true n d p = away-ge n d p
-downward-kept false n d p = le_refl (n / d)
-
-pub upward-kept : Kept upward
-upward-kept true n d p = le_refl (n / d)
-upward-kept false n d p = away-ge n d p
-
-module _ (h : ℕ) (g : Way) where
+module _ (h : ℕ) (above below : Bool) where
   held_whole : (s : Bool) (n : ℕ) → n < 2 ^ h → with_sign s n ≡ held h s n
   held_whole true n l = let whole : n ≡ min n (2 ^ h) = omega arith in ap (λ (k : ℕ). neg_ℤ (pos k)) whole
   held_whole false n l = ap pos (omega arith)
@@ -95,10 +69,14 @@ module _ (h : ℕ) (g : Way) where
   held-end true n l = let cut : 2 ^ h ≡ min n (2 ^ h) = omega arith in ap (λ (k : ℕ). neg_ℤ (pos k)) cut
   held-end false n l = ap pos (omega arith)
 
+  -- a fraction that is at least 2 ^ h is so rounded either way
+  reaches : (f : Bool) (m : ℕ) (e : ℤ) → lt (fin false m e) (most h) ≡ false → 2 ^ h ≤ fraction f (m * up e) (down e)
+  reaches f m e b = le_trans ((le-div_iff_mul-le (down_pos e)).1 (beyond-most h m e b)) (whole-part f (m * up e) (down e) (down_pos e))
+
   -- below 2 ^ h the fraction is rounded and no more
-  inside_of : (s : Bool) (y : Float) → le (most 0) y ≡ true → lt y (most h) ≡ true → g s (num y) (den y) < 2 ^ h
-      → with_sign s (g s (num y) (den y)) ≡ rounded h g (signed s y)
-  unfolding le lt eq neg
+  inside_of : (s : Bool) (y : Float) → le (most 0) y ≡ true → lt y (most h) ≡ true → fraction (by_sign above below s) (num y) (den y) < 2 ^ h
+      → with_sign s (fraction (by_sign above below s) (num y) (den y)) ≡ rounded_to h above below (signed s y)
+  unfolding rounded_to le lt eq neg
   inside_of s nan a b l = absurd (true≢false (sym a))
   inside_of s (inf true) a b l = absurd (true≢false (sym a))
   inside_of s (inf false) a b l = absurd (true≢false (sym b))
@@ -107,26 +85,24 @@ module _ (h : ℕ) (g : Way) where
   inside_of false (fin false m e) a b l = held_whole false _ l
 
   -- from 2 ^ h on it is the end of the range
-  outside_of : Kept g → (s : Bool) (y : Float) → le (most 0) y ≡ true → lt y (most h) ≡ false → end_of h s ≡ rounded h g (signed s y)
-  unfolding le lt eq neg
-  outside_of k s nan a b = absurd (true≢false (sym a))
-  outside_of k s (inf true) a b = absurd (true≢false (sym a))
-  outside_of k true (inf false) a b = refl
-  outside_of k false (inf false) a b = refl
-  outside_of k s (fin true m e) a b = absurd (not_negative 0 m e a)
-  outside_of k true (fin false m e) a b =
-      held-end true _ (le_trans ((le-div_iff_mul-le (down_pos e)).1 (beyond-most h m e b)) (k true (m * up e) (down e) (down_pos e)))
-  outside_of k false (fin false m e) a b =
-      held-end false _ (le_trans ((le-div_iff_mul-le (down_pos e)).1 (beyond-most h m e b)) (k false (m * up e) (down e) (down_pos e)))
+  outside_of : (s : Bool) (y : Float) → le (most 0) y ≡ true → lt y (most h) ≡ false → end_of h s ≡ rounded_to h above below (signed s y)
+  unfolding rounded_to le lt eq neg
+  outside_of s nan a b = absurd (true≢false (sym a))
+  outside_of s (inf true) a b = absurd (true≢false (sym a))
+  outside_of true (inf false) a b = refl
+  outside_of false (inf false) a b = refl
+  outside_of s (fin true m e) a b = absurd (not_negative 0 m e a)
+  outside_of true (fin false m e) a b = held-end true _ (reaches below m e b)
+  outside_of false (fin false m e) a b = held-end false _ (reaches above m e b)
 
   -- the same, of x
   pub inside : (s : Bool) (x : Float) → le (most 0) (signed s x) ≡ true → lt (signed s x) (most h) ≡ true
-      → g s (num (signed s x)) (den (signed s x)) < 2 ^ h
-      → with_sign s (g s (num (signed s x)) (den (signed s x))) ≡ rounded h g x
-  inside s x a b l = inside_of s (signed s x) a b l ∙ ap (rounded h g) (signed-twice s x)
+      → fraction (by_sign above below s) (num (signed s x)) (den (signed s x)) < 2 ^ h
+      → with_sign s (fraction (by_sign above below s) (num (signed s x)) (den (signed s x))) ≡ rounded_to h above below x
+  inside s x a b l = inside_of s (signed s x) a b l ∙ ap (rounded_to h above below) (signed-twice s x)
 
-  pub outside : Kept g → (s : Bool) (x : Float) → le (most 0) (signed s x) ≡ true → lt (signed s x) (most h) ≡ false → end_of h s ≡ rounded h g x
-  outside k s x a b = outside_of k s (signed s x) a b ∙ ap (rounded h g) (signed-twice s x)
+  pub outside : (s : Bool) (x : Float) → le (most 0) (signed s x) ≡ true → lt (signed s x) (most h) ≡ false → end_of h s ≡ rounded_to h above below x
+  outside s x a b = outside_of s (signed s x) a b ∙ ap (rounded_to h above below) (signed-twice s x)
 
 -- ---- between -1 and 1
 
@@ -136,58 +112,55 @@ held-zero h false n z = ap pos (omega arith)
 
 module _ (m : ℕ) (e : ℤ) where
   -- below 1 the whole part is 0
-  cut : le (most 0) (fin false m e) ≡ false → toward (m * up e) (down e) ≡ 0
-  cut a = div-eq_of_lt (subst (λ (k : ℕ). m * up e < k) (one-mul (down e)) (not-at-least 0 m e a))
+  cut : m * up e < 2 ^ 0 * down e → toward (m * up e) (down e) ≡ 0
+  cut a = div-eq_of_lt (subst (λ (k : ℕ). m * up e < k) (one-mul (down e)) a)
 
   -- above 0 and not above 1, what is at or above it is 1
   filled : 0 < m * up e → m * up e < 2 ^ 0 * down e → away (m * up e) (down e) ≡ 1
   filled a b = away-one (m * up e) (down e) a (omega (arith, one-mul (down e)))
 
-  none : m * up e ≤ 0 → away (m * up e) (down e) ≡ 0
-  none a = omega (arith, away-le (m * up e) (down e) 0 (down_pos e) (omega arith))
+  -- of 0 it is 0 either way
+  none : (f : Bool) → m * up e ≤ 0 → fraction f (m * up e) (down e) ≡ 0
+  none true a = omega (arith, away-le (m * up e) (down e) 0 (down_pos e) (omega arith))
+  none false a = cut (omega (arith, one-mul (down e), down_pos e))
 
 module _ (h : ℕ) where
-  pub truncation-small : (x : Float) → le (most 0) x ≡ false → le (most 0) (neg x) ≡ false → pos 0 ≡ rounded h inward x
-  unfolding le lt eq neg
-  truncation-small nan a b = refl
-  truncation-small (inf true) a b = absurd (true≢false b)
-  truncation-small (inf false) a b = absurd (true≢false a)
-  truncation-small (fin true m e) a b = held-zero h true _ (cut m e b)
-  truncation-small (fin false m e) a b = held-zero h false _ (cut m e a)
+  pub one-above : 1 ≤ h → (below : Bool) (x : Float) → le (most 0) x ≡ false → lt nought x ≡ true → pos 1 ≡ rounded_to h true below x
+  unfolding rounded_to le lt eq
+  one-above l below nan a b = absurd (true≢false (sym b))
+  one-above l below (inf true) a b = absurd (true≢false (sym b))
+  one-above l below (inf false) a b = absurd (true≢false a)
+  one-above l below (fin true m e) a b = absurd (not-above m e b)
+  one-above l below (fin false m e) a b = ap pos (omega (arith, pow_mono l, filled m e (some-above m e b) (not-at-least 0 m e a)))
 
-  pub floor-below : (x : Float) → lt x nought ≡ true → lt (neg x) (most 0) ≡ true → negsuc 0 ≡ rounded h downward x
-  unfolding lt neg
-  floor-below nan a b = absurd (true≢false (sym a))
-  floor-below (inf true) a b = absurd (true≢false (sym b))
-  floor-below (inf false) a b = absurd (true≢false (sym a))
-  floor-below (fin true m e) a b =
+  pub one_below : (above : Bool) (x : Float) → lt x nought ≡ true → lt (neg x) (most 0) ≡ true → negsuc 0 ≡ rounded_to h above true x
+  unfolding rounded_to lt neg
+  one_below above nan a b = absurd (true≢false (sym a))
+  one_below above (inf true) a b = absurd (true≢false (sym b))
+  one_below above (inf false) a b = absurd (true≢false (sym a))
+  one_below above (fin true m e) a b =
       let one : 1 ≡ min (away (m * up e) (down e)) (2 ^ h) = omega (arith, pow_pos h, filled m e (some_below m e a) (under-most 0 m e b)) in
       ap (λ (k : ℕ). neg_ℤ (pos k)) one
-  floor-below (fin false m e) a b = absurd (not-below m e a)
+  one_below above (fin false m e) a b = absurd (not-below m e a)
 
-  pub floor-small : (x : Float) → le (most 0) x ≡ false → lt x nought ≡ false → pos 0 ≡ rounded h downward x
-  unfolding le lt eq
-  floor-small nan a b = refl
-  floor-small (inf true) a b = absurd (true≢false b)
-  floor-small (inf false) a b = absurd (true≢false a)
-  floor-small (fin true m e) a b = held-zero h true _ (none m e (none_below m e b))
-  floor-small (fin false m e) a b = held-zero h false _ (cut m e a)
+  pub zero_below : (above : Bool) (x : Float) → lt x nought ≡ true → lt (neg x) (most 0) ≡ true → pos 0 ≡ rounded_to h above false x
+  unfolding rounded_to lt neg
+  zero_below above nan a b = refl
+  zero_below above (inf true) a b = absurd (true≢false (sym b))
+  zero_below above (inf false) a b = absurd (true≢false (sym a))
+  zero_below above (fin true m e) a b = held-zero h true _ (cut m e (under-most 0 m e b))
+  zero_below above (fin false m e) a b = absurd (not-below m e a)
 
-  pub ceil-above : 1 ≤ h → (x : Float) → le (most 0) x ≡ false → lt nought x ≡ true → pos 1 ≡ rounded h upward x
-  unfolding le lt eq
-  ceil-above l nan a b = absurd (true≢false (sym b))
-  ceil-above l (inf true) a b = absurd (true≢false (sym b))
-  ceil-above l (inf false) a b = absurd (true≢false a)
-  ceil-above l (fin true m e) a b = absurd (not-above m e b)
-  ceil-above l (fin false m e) a b = ap pos (omega (arith, pow_mono l, filled m e (some-above m e b) (not-at-least 0 m e a)))
-
-  pub ceil-small : (x : Float) → lt nought x ≡ false → le (most 0) (neg x) ≡ false → pos 0 ≡ rounded h upward x
-  unfolding le lt eq neg
-  ceil-small nan a b = refl
-  ceil-small (inf true) a b = absurd (true≢false b)
-  ceil-small (inf false) a b = absurd (true≢false a)
-  ceil-small (fin true m e) a b = held-zero h true _ (cut m e b)
-  ceil-small (fin false m e) a b = held-zero h false _ (none m e (none_above m e a))
+  -- no number, 0, or one above 0 that goes toward it
+  pub zero-above : (above below : Bool) (x : Float) → le (most 0) x ≡ false → lt x nought ≡ false
+      → (above ≡ false) ⊎ (lt nought x ≡ false) → pos 0 ≡ rounded_to h above below x
+  unfolding rounded_to le lt eq
+  zero-above above below nan a b p = refl
+  zero-above above below (inf true) a b p = absurd (true≢false b)
+  zero-above above below (inf false) a b p = absurd (true≢false a)
+  zero-above above below (fin true m e) a b p = held-zero h true _ (none m e below (none_below m e b))
+  zero-above above below (fin false m e) a b (inl p) = held-zero h false _ (rw p (cut m e (not-at-least 0 m e a)))
+  zero-above above below (fin false m e) a b (inr p) = held-zero h false _ (none m e above (none_above m e p))
 
 -- ---- both are in the range
 

@@ -1,5 +1,6 @@
 -- Of tests: what two of them together say of each, and when two are equal.
-use Rattle.std.proofs.Common.{◌≡◌, ℕ, ◌≤◌, Bool, true, false, not, ◌&&◌, ◌||◌, ltb, leb, sym, refl, ap, true≢false, ltb-false, le-ltb, le-leb, leb-true}
+use Rattle.std.proofs.Common.{◌≡◌, ℕ, ◌≤◌, Bool, true, false, not, ◌&&◌, ◌||◌, eqb, ltb, leb, sym, refl, ap, true≢false, eq-eqb, ltb-false, le-ltb, le-leb, leb-true}
+use Rattle.std.proofs.lemmas.Bool.{ne_eqb}
 use borrow.Author.Tests.{not-true}
 
 pub both : (a b : Bool) → a && b ≡ true → (a ≡ true) × (b ≡ true)
@@ -21,3 +22,10 @@ leb-ltb a b c d f g =
     same (leb a b) (not (ltb c d))
     (λ h. ap not (le-ltb c d (f (leb-true a b h))))
     (λ h. le-leb a b (g (ltb-false c d (not-true (ltb c d) h))))
+
+-- a const flag is kept as a number, and is set where that is not 0
+pub set : (n : ℕ) → (n ≡ 0 → ⊥) → not (eqb n 0) ≡ true
+set n h = ap not (ne_eqb n 0 h)
+
+pub unset : (n : ℕ) → n ≡ 0 → not (eqb n 0) ≡ false
+unset n h = ap not (eq-eqb n 0 h)

@@ -1,18 +1,43 @@
 -- The cells beside a column, as the code holds them: the rows are long enough for them, and show the layers that the rule speaks of.
 use mathlib.Core.Path.{◌≡◌, refl, ap, ap₂, ◌∙◌}
+use mathlib.Core.Bool.{true}
 use mathlib.Core.Logic.{◌≢◌}
 use mathlib.Core.List.{List, [], ◌∷◌, map}
-use Prim.Native.Nat.{ℕ, suc, ◌*◌, ◌<◌}
+use Prim.Native.Nat.{ℕ, zero, suc, ◌+◌, ◌*◌, ◌<◌}
 use native.Mathlib.Omega.{arith}
+use borrow.Author.Tests.{ltb-true}
 use lib.ListN.{length, get_or}
+use Rattle.std.specs.Prelude.{Option, Some, None, MatchOption}
+use Rattle.grid.specs.Directions.{step_x, step_z, stays, StepsTo}
 use Rattle.field.specs.Slots.{none}
 use Rattle.field.specs.Beside.{beside}
 use Rattle.field.specs.Open.{Open, space}
 use Rattle.field.specs.Links.{passes, around, word_of, missed_of}
 use Rattle.field.specs.Rowing.{bare, Shown}
 use Rattle.field.proofs.Sides.{Beside, beside-shown, beside-inside, word-bare, missed-of-bare}
-use Rattle.rerecast.specs.Compacting.{side_of, layers_of, Within}
+use Rattle.rerecast.specs.Compacting.{side_of, Beside as BesideAt, layers_of, Within}
 use Rattle.rerecast.specs.declared.sides.Side.{Side}
+
+-- ---- the column beside a place
+
+-- a step that does not leave the grid leads to a place on it
+stays-on : (w h d : ℕ) {x z : ℕ} → x < w → z < h → stays w h d x z ≡ true → (step_x d x < w) × (step_z d z < h)
+stays-on w h zero a b s = (omega arith, b)
+stays-on w h (suc zero) a b s = (a, ltb-true _ _ s)
+stays-on w h (suc (suc zero)) a b s = (ltb-true _ _ s, b)
+stays-on w h (suc (suc (suc d))) a b s = (a, omega arith)
+
+-- such a step has a column, whose number is the rule's
+pub beside-found : (w h d x z x' z' : ℕ) (found : Option ℕ) → (x < w) × (z < h) → StepsTo (Some (x', z')) w h d x z
+    → MatchOption found ((x' < w) × (z' < h) → ⊥) (λ i. ((x' < w) × (z' < h)) × ((i ≡ x' + z' * w) × (i < w * h))) → BesideAt found w h x z d
+beside-found w h d x z x' z' (Some i) g t c = (rw (t.0, ← t.1.0, ← t.1.1) c.1.0, c.1.1)
+beside-found w h d x z x' z' None g t c = absurd (c (rw (t.1.0, t.1.1) (stays-on w h d g.0 g.1 t.0)))
+
+-- and where none stays there is none
+pub beside-missing : (w h d x z : ℕ) → StepsTo None w h d x z → BesideAt None w h x z d
+beside-missing w h d x z s = (rw s, tt)
+
+-- ---- the cells there
 
 module _ {cs : List (List Open)} {ix sz ys ws : List ℕ} (S : Shown cs ix sz ys ws) where
   -- each number is a column's, or none

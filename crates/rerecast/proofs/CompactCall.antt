@@ -1,5 +1,5 @@
--- The ends of `into_compact`: what the answers of its inner functions tell, and the outcome that each makes.
-use mathlib.Core.Path.{◌≡◌, refl, ap, subst, ◌∙◌}
+-- The ends of `into_compact`, and the outcome that each makes.
+use mathlib.Core.Path.{◌≡◌, refl, ap, ◌∙◌}
 use mathlib.Core.Logic.{inl, inr}
 use mathlib.Core.List.{List, flatten}
 use Prim.Native.Nat.{ℕ, ◌*◌, ◌≤◌, min}
@@ -11,26 +11,18 @@ use Rattle.grid.specs.declared.Grid.{Grid}
 use Rattle.grid.specs.Grid.{width, height, columns}
 use Rattle.field.specs.Field.{Field, Holds}
 use Rattle.field.specs.Store.{Store, store, cleared}
-use Rattle.field.specs.Open.{Open, columns_of, cells}
+use Rattle.field.specs.Open.{columns_of, cells}
 use Rattle.field.specs.Links.{passes, largest_missed}
-use Rattle.field.specs.Compact.{Result, Suiting, Room, Few, complete, outcome, keeping, raised_top, complete_says, Compacts, Compacted}
+use Rattle.field.specs.Compact.{Result, result_of, rows, Suiting, Room, Few, complete, outcome, keeping, raised_top, complete_says, Compacts, Compacted}
 use Rattle.field.proofs.Admitting.{admits-past, admits-swap, admits-refused}
-use Rattle.rerecast.specs.Answer.{said_of}
-use Rattle.rerecast.specs.declared.Reply.{Reply}
-use Rattle.rerecast.specs.declared.admission.Admission.TheVariants as admission
-use Rattle.rerecast.specs.declared.compact_heightfield.Tally.{Tally}
-use Rattle.rerecast.specs.declared.compact_heightfield.Tally.TheVariants.{Crowded, Total}
+use Rattle.rerecast.specs.Answer.{refusal_says}
+use Rattle.std.specs.Prelude.{Ok, Err}
+use Rattle.grid.specs.declared.sizes.Size.{Size}
+use Rattle.rerecast.specs.declared.Refusal.{Refusal}
+use Rattle.rerecast.specs.declared.lent.Compact.{Compact}
+use Rattle.rerecast.specs.Lent.{compact_of}
 use Rattle.rerecast.specs.Inner.{Fitted, AdmitsCall}
-use Rattle.rerecast.specs.Compacting.{Tallies}
-
--- ---- the tally
-
-module _ (r : Tally) (cs : List (List Open)) (T : Tallies r cs) where
-  pub total-told : {n : ℕ} → r ≡ Total n → Few cs × (n ≡ length (flatten cs))
-  total-told e = subst (λ (t : Tally). Tallies t cs) e T
-
-  pub crowded-told : r ≡ Crowded → Few cs → ⊥
-  crowded-told e = subst (λ (t : Tally). Tallies t cs) e T
+use Rattle.rerecast.proofs.GivenBack.{CompactBack, compact-back}
 
 -- ---- the outcomes, of one field
 
@@ -57,20 +49,24 @@ fitted n a b shortest s t ea eb e S = (S.fitting, omega (arith, S.indices, S.cou
 
 module _ (g : Grid) (tall climb shortest : ℕ) (s : Store) (marks' : List ℕ) (t : Result) (e : shortest ≡ min (length t.indices) (length t.counts)) where
   -- refused by a test
-  pub compacted-refused : (q : Reply) → AdmitsCall (admission.Refused q) g shortest s marks' → Compacted g tall climb s t (keeping t (said_of q) (store s.heads s.slots marks'))
+  pub compacted-refused : (q : Refusal) → AdmitsCall (Err q) g shortest s marks' → Compacted g tall climb s t (keeping t (refusal_says q) (store s.heads s.slots marks'))
   compacted-refused q A =
       let next = Compacts (width g) (height g) (raised_top g tall) tall climb s t in
       let s' = store s.heads s.slots marks' in
-      admits-swap (keeping t) g s next (keeping t (said_of q) s') (suits (columns g) _ _ shortest s t refl refl e) (fitted (columns g) _ _ shortest s t refl refl e)
-      (admits-refused (keeping t) g (Fitted (columns g) shortest s) s next (said_of q) s' A)
+      admits-swap (keeping t) g s next (keeping t (refusal_says q) s') (suits (columns g) _ _ shortest s t refl refl e) (fitted (columns g) _ _ shortest s t refl refl e)
+      (admits-refused (keeping t) g (Fitted (columns g) shortest s) s next (refusal_says q) s' A)
 
   -- past all tests
-  module _ {w h : ℕ} (A : AdmitsCall (admission.Granted w h) g shortest s marks') where
-    pub field-ready : ((w * h ≤ length t.indices) × (w * h ≤ length t.counts))
+  module _ (size : Size) (A : AdmitsCall (Ok size) g shortest s marks') where
+    pub field-ready : ((size.width * size.height ≤ length t.indices) × (size.width * size.height ≤ length t.counts))
     field-ready = rw (A.1.0.0, A.1.0.1) (omega (arith, A.1.1.fits.1), omega (arith, A.1.1.fits.1))
 
-    pub compacted-field : {top : Float} {said : Said} {t' : Result} → top ≡ raised_top g tall → Compacts w h top tall climb s t (outcome said (cleared s) t') → Compacted g tall climb s t (outcome said (store s.heads s.slots marks') t')
-    compacted-field {top} {said} {t'} et C =
-        admits-past (keeping t) g s (Compacts (width g) (height g) (raised_top g tall) tall climb s t) (outcome said (store s.heads s.slots marks') t') A.0
-        (suits (columns g) _ _ shortest s t refl refl e A.1.1.fits) A.1.1.sound
-        (rw (A.1.1.zeros, ← A.1.0.0, ← A.1.0.1, ← et) C)
+    pub compacted-field : {top : Float} {said : Said} (t' : Compact) {ix sz ys ws ar : List ℕ} → CompactBack t' ix sz ys ws ar → top ≡ raised_top g tall
+        → Compacts size.width size.height top tall climb s t (outcome said (cleared s) (compact_of t'))
+        → Compacted g tall climb s t (outcome said (store s.heads s.slots marks') (result_of ix sz (rows ys ws ar)))
+    compacted-field {top} {said} t' back et C =
+        let next = Compacts (width g) (height g) (raised_top g tall) tall climb s t in
+        rw (compact-back t' back) (
+        admits-past (keeping t) g s next (outcome said (store s.heads s.slots marks') (compact_of t')) A.0
+        (suits (columns g) _ _ shortest s t refl refl e A.1.1.fits) A.1.1.sound (rw (A.1.1.zeros, ← A.1.0.0, ← A.1.0.1, ← et) C)
+        )

@@ -1,11 +1,11 @@
-pub mod Told
+pub mod GivenBack
 pub mod Admitted
+pub mod MeshAdmitted
 pub mod Answers
+pub mod Columns
+pub mod Rasterizing
+pub mod Populated
 pub mod Compacting
 pub mod Around
 pub mod LinkCursors
 pub mod CompactCall
-pub mod Filtered
-pub mod Rasterizing
-pub mod MeshAdmitted
-pub mod Columns

@@ -1,8 +1,8 @@
--- What the rasteriser's inner functions owe one another: an insertion's answer, how many insertions a step can have made, and a turn of the loops over rows
--- and columns.
+-- What the rasteriser's inner functions owe one another: how many insertions a step can have made, a turn of the loops over rows and columns, and the numbers
+-- that are handed on.
 use mathlib.Core.Path.{◌≡◌, refl, sym, ap, subst, ◌∙◌}
 use mathlib.Core.Bool.{Bool, true, false, ◌&&◌}
-use mathlib.Core.List.{List, [], ◌∷◌}
+use mathlib.Core.List.{List}
 use Prim.Native.Nat.{ℕ, ◌+◌, ◌-◌, ◌*◌, ◌≤◌, ◌<◌}
 use native.Mathlib.Omega.{arith}
 use lib.Dec.{leb}
@@ -13,57 +13,35 @@ use mir.Syntax.{w16, w32}
 use mir.Val.{SFits, to_z, of_z}
 use mir.ValLaws.{to_z-of_z}
 use borrow.Author.Tests.{leb-true}
+use Rattle.std.specs.Prelude.{Result, Ok, Err}
 use Rattle.grid.specs.declared.Corner.{Corner}
 use Rattle.grid.specs.declared.Grid.{Grid}
 use Rattle.clip.specs.declared.cut.Counts.{Counts}
 use Rattle.clip.specs.declared.frame.Frame.{Frame}
 use Rattle.clip.specs.Slices.{cell_of, edge_of, held_last}
-use Rattle.clip.specs.Work.{Event, insert as offer, and_then, frame_of}
+use Rattle.clip.specs.Work.{Event, and_then, frame_of}
 use Rattle.clip.proofs.Holds.{held-le}
 use Rattle.field.specs.Slots.{Slots}
-use Rattle.field.specs.Field.{Field, Holds, Inserted, insert}
+use Rattle.field.specs.Field.{Field}
 use Rattle.field.specs.Carrying.{Carried, went, stopped, carry}
 use Rattle.field.specs.Working.{Remains, turn_events}
 use Rattle.field.proofs.Basics.{by-test}
-use Rattle.field.proofs.Carrying.{made_in, made-few, insertion-made, insertion-refused, remains-then, remains-as}
-use Rattle.rerecast.specs.Inner.{Lands}
+use Rattle.field.proofs.Carrying.{made_in, made-few, remains-then}
 use Rattle.rerecast.specs.Rasterize.{made_by, left_by, Carries, Sides, Ready}
-use Rattle.rerecast.specs.declared.insertion.Landing.{Landing}
-use Rattle.rerecast.specs.declared.insertion.Landing.TheVariants.{Landed, Refused}
 use Rattle.rerecast.specs.declared.turns.Job.{Job}
-use Rattle.rerecast.specs.declared.turns.Step.{Step}
-use Rattle.rerecast.specs.declared.turns.Step.TheVariants.{Went, Stopped}
-use Rattle.rerecast.specs.declared.turns.Stop.{Stop}
-use Rattle.rerecast.specs.declared.turns.Stop.TheVariants.{NoSlot}
-
--- ---- one insertion
-
-abbrev putting : Job → Field → ℕ → ℕ → ℕ → ℕ → Inserted
-putting job f x z floor ceiling = insert job.threshold f (x + z * job.frame.width) (record { floor = floor; ceiling = ceiling; area = job.area })
-
-module _ (job : Job) (made : ℕ) (f : Field) (x z floor ceiling : ℕ) {heads : List ℕ} {t : Slots} (r : Landing) where
-  pub landed-goes : (slot merged : ℕ) → r ≡ Landed slot merged → Lands r (putting job f x z floor ceiling) × Holds heads t (putting job f x z floor ceiling).field
-      → Carries job made f (offer x z floor ceiling ∷ []) (Went (made + 1)) heads t
-  landed-goes slot merged e l =
-      insertion-made job.frame.width job.threshold job.area made f x z floor ceiling (subst (λ (k : Landing). Lands k (putting job f x z floor ceiling)) e l.0).0 l.1
-
-  pub refused-stops : r ≡ Refused → ((putting job f x z floor ceiling).accepted ≡ false → (putting job f x z floor ceiling).field ≡ f)
-      → Lands r (putting job f x z floor ceiling) × Holds heads t (putting job f x z floor ceiling).field
-      → Carries job made f (offer x z floor ceiling ∷ []) (Stopped NoSlot made) heads t
-  refused-stops e same l =
-      let refused = subst (λ (k : Landing). Lands k (putting job f x z floor ceiling)) e l.0 in
-      insertion-refused job.frame.width job.threshold job.area made f x z floor ceiling refused (same refused) l.1
+use Rattle.rerecast.specs.declared.turns.Halt.{Halt}
 
 -- ---- what a step says
 
 -- once it is over nothing is made any more
-over : (job : Job) (s : Step) (g : Field) → made_in (carry job.frame.width job.threshold job.area (made_by s) g (left_by s)) ≡ made_by s
+over : (job : Job) (r : Result ℕ Halt) (g : Field) → made_in (carry job.frame.width job.threshold job.area (made_by r) g (left_by r)) ≡ made_by r
 unfolding carry
-over job (Went n) g = refl
-over job (Stopped why n) g = refl
+over job (Ok made) g = refl
+over job (Err halt) g = refl
 
 -- no more insertions than the work has
-pub step-most : (job : Job) (made : ℕ) (f : Field) (es : List Event) (r : Step) {heads : List ℕ} {t : Slots} → Carries job made f es r heads t → made_by r ≤ made + length es
+pub step-most : (job : Job) (made : ℕ) (f : Field) (es : List Event) (r : Result ℕ Halt) {heads : List ℕ} {t : Slots} → Carries job made f es r heads t
+    → made_by r ≤ made + length es
 step-most job made f es r R = made-few job.frame.width job.threshold job.area made f es (left_by r) (λ g. over job r g) R
 
 both : (a b : Bool) → a && b ≡ true → (a ≡ true) × (b ≡ true)
@@ -71,11 +49,10 @@ both true b e = (refl, e)
 both false b e = let z : ◌≡◌ {A = ℕ} 0 1 = cc in absurd (omega arith)
 
 -- where a turn went on no part has an eighth vertex
-pub went-fits : (job : Job) (made : ℕ) (f : Field) (d : Counts) (gives : ℕ → List Corner → List Event) (k : ℕ) (vs : List Corner) (r : Step) (m : ℕ) {heads : List ℕ} {t : Slots}
-    → r ≡ Went m → Carries job made f (turn_events d gives k vs) r heads t → (d.first ≤ 7) × (d.second ≤ 7)
+pub went-fits : (job : Job) (made : ℕ) (f : Field) (d : Counts) (gives : ℕ → List Corner → List Event) (k : ℕ) (vs : List Corner) (m : ℕ) {heads : List ℕ} {t : Slots}
+    → Carries job made f (turn_events d gives k vs) (Ok m) heads t → (d.first ≤ 7) × (d.second ≤ 7)
 unfolding carry
-went-fits job made f d gives k vs r m {heads} {t} q C =
-    let R = subst (λ (s : Step). Carries job made f (turn_events d gives k vs) s heads t) q C in
+went-fits job made f d gives k vs m R =
     by-test (leb d.first 7 && leb d.second 7) (λ e. let p = both (leb d.first 7) (leb d.second 7) e in (leb-true d.first 7 p.0, leb-true d.second 7 p.1))
     (λ e.
     let q : went m R.field ≡ stopped 6 made f = rw e at R.comes in
@@ -86,29 +63,22 @@ went-fits job made f d gives k vs r m {heads} {t} q C =
 
 module _ (job : Job) {es : List Event} (near more : List Event) (e : es ≡ and_then near more) (count : ℕ) {o : Carried} {heads : List ℕ} {t : Slots}
     (R : Remains job.frame.width job.threshold job.area o count es heads t) {heads' : List ℕ} {t' : Slots} where
-  turned : (r : Step) → Carries job count R.field near r heads' t' → Remains job.frame.width job.threshold job.area o (made_by r) (and_then (left_by r) more) heads' t'
+  turned : (r : Result ℕ Halt) → Carries job count R.field near r heads' t'
+      → Remains job.frame.width job.threshold job.area o (made_by r) (and_then (left_by r) more) heads' t'
   turned r C =
       remains-then job.frame.width job.threshold job.area count R.field near more
       (ap (λ (l : List Event). carry job.frame.width job.threshold job.area count R.field l) (sym e) ∙ R.comes) C
 
-  pub turn-went : (r : Step) (m : ℕ) → r ≡ Went m → Carries job count R.field near r heads' t' → Remains job.frame.width job.threshold job.area o m more heads' t'
+  pub turn-went : (m : ℕ) → Carries job count R.field near (Ok m) heads' t' → Remains job.frame.width job.threshold job.area o m more heads' t'
   unfolding and_then
-  turn-went r m q C = turned (Went m) (subst (λ (s : Step). Carries job count R.field near s heads' t') q C)
+  turn-went m C = turned (Ok m) C
 
-  pub turn_stopped : (r : Step) (why : Stop) (m : ℕ) → r ≡ Stopped why m → Carries job count R.field near r heads' t'
-      → Remains job.frame.width job.threshold job.area o (made_by r) (left_by r) heads' t'
+  pub turn_stopped : (halt : Halt) → Carries job count R.field near (Err halt) heads' t'
+      → Remains job.frame.width job.threshold job.area o halt.made (left_by (Err halt)) heads' t'
   unfolding and_then
-  turn_stopped r why m q C =
-      remains-as job.frame.width job.threshold job.area (made_by r) (subst (λ (s : Step). and_then (left_by s) more ≡ left_by s) (sym q) refl) (turned r C)
+  turn_stopped halt C = turned (Err halt) C
 
--- ---- the lent slices keep their lengths
-
-pub record Alike (heads heads' floors floors' ceilings ceilings' areas areas' nexts nexts' : List ℕ) : Type 0 where
-  pub heads-as : length heads ≡ length heads'
-  pub floors-as : length floors ≡ length floors'
-  pub ceilings-as : length ceilings ≡ length ceilings'
-  pub areas-as : length areas ≡ length areas'
-  pub nexts-as : length nexts ≡ length nexts'
+-- ---- the heads and the frame
 
 -- the heads are still as many
 pub again : {f : Frame} (heads : List ℕ) (heads' : List ℕ) → Ready f heads → length heads' ≡ length heads → Ready f heads'

@@ -1,30 +1,45 @@
 -- What the inner functions' answers mean in `into_compact`. No public contract cites this file.
-use Rattle.std.specs.Prelude.{◌≡◌, true, false, cond, ℕ, ◌+◌, ◌<◌, ◌≤◌, length, get_or, drop, eqb}
+use Rattle.std.specs.Prelude.{◌≡◌, true, false, cond, ℕ, ◌+◌, ◌*◌, ◌<◌, ◌≤◌, length, get_or, drop, eqb, Option, Some, None, IfSome}
 use mathlib.Core.List.{List, [], ◌∷◌, map, flatten}
-use Rattle.field.specs.Slots.{none}
+use Rattle.std.proofs.lemmas.List.Edits.{sets}
+use Rattle.field.specs.Slots.{none, Contents}
+use Rattle.field.specs.Beside.{beside_in}
 use Rattle.field.specs.Open.{Open}
-use Rattle.field.specs.Compact.{Few}
+use Rattle.field.specs.Compact.{Few, Result, result_of, rows}
 use Rattle.field.specs.Links.{passes}
-use Rattle.field.specs.Rowing.{shown_at, shown, Climbs, AllBehind, NonePasses}
-use Rattle.rerecast.specs.declared.compact_heightfield.Tally.{Tally}
-use Rattle.rerecast.specs.declared.compact_heightfield.Tally.TheVariants.{Crowded, Total}
+use Rattle.field.specs.Rowing.{laid, raised_by, Laid, shown_at, shown, Climbs, Shown, AllBehind, NonePasses}
 use Rattle.rerecast.specs.declared.sides.Side.{Side}
-use Rattle.rerecast.specs.declared.sides.Around.{Around}
-use Rattle.rerecast.specs.declared.links.Cursors.{Cursors}
 use Rattle.rerecast.specs.declared.links.Look.{Look}
 
 -- the open spaces are counted, or some column has too many
-abbrev pub Tallies : Tally → List (List Open) → Type 0
-Tallies Crowded cs = Few cs → ⊥
-Tallies (Total n) cs = Few cs × (n ≡ length (flatten cs))
+abbrev pub Tallies : Option ℕ → List (List Open) → Type 0
+Tallies None cs = Few cs → ⊥
+Tallies (Some n) cs = Few cs × (n ≡ length (flatten cs))
+
+-- the open spaces of one span stored at place `k`: the place after them, and the count of cell `i` raised by as many
+pub record Placed (t : Result) (i k : ℕ) (os : List Open) (end : ℕ) (t' : Result) : Type 0 where
+  pub place : end ≡ k + length os
+  pub indices : t'.indices ≡ t.indices
+  pub counts : t'.counts ≡ raised_by t.counts i (length os)
+  pub rows : t'.rows ≡ laid t.rows k os
+
+-- those of a column, whose cell's index is not yet set
+pub record LaidIn (k : Contents) (ss : List ℕ) (t : Result) (start i : ℕ) (t' : Result) (end : ℕ) : Type 0 where
+  pub indices : t'.indices ≡ t.indices
+  pub laid : Laid k ss t.rows start t.counts i t'.rows end t'.counts
 
 -- the cell with number `k`, and an empty one where that is none
 abbrev pub side_of : List ℕ → List ℕ → ℕ → Side
 side_of ix sz k = record { first = cond (eqb k none) 0 (get_or ix k 0); count = cond (eqb k none) 0 (get_or sz k 0) }
 
--- the cells beside, by direction
-abbrev pub sides_of : Around → List Side
-sides_of r = r.side0 ∷ r.side1 ∷ r.side2 ∷ r.side3 ∷ []
+-- the number that the definitions have for a column that may be off the grid
+abbrev pub place_of : Option ℕ → ℕ
+place_of (Some k) = k
+place_of None = none
+
+-- the column beside x, z in direction d
+abbrev pub Beside : Option ℕ → ℕ → ℕ → ℕ → ℕ → ℕ → Type 0
+Beside r w h x z d = (place_of r ≡ beside_in w h d x z) × IfSome r (λ k. k < w * h)
 
 -- their layers, as the rows show them
 abbrev pub layers_of : List ℕ → List ℕ → List Side → List (List Open)
@@ -40,11 +55,15 @@ abbrev pub Within : List ℕ → List ℕ → List Side → Type 0
 Within ys ws [] = Unit {0}
 Within ys ws (s ∷ ss) = Lies ys ws s × Within ys ws ss
 
--- ---- how far they are behind
+-- a compact result that shows the cells `cs`
+abbrev pub ShownIn : List (List Open) → Result → Type 0
+ShownIn cs t = Shown cs t.indices t.counts t.rows.ys t.rows.words
 
--- the cursors, by direction
-abbrev pub cursors_of : Cursors → List ℕ
-cursors_of t = t.from0 ∷ t.from1 ∷ t.from2 ∷ t.from3 ∷ []
+-- the same result with words put in from place `k` on
+abbrev pub linked : Result → ℕ → List ℕ → Result
+linked t k ws = result_of t.indices t.counts (rows t.rows.ys (sets t.rows.words k ws) t.rows.areas)
+
+-- ---- how far they are behind
 
 -- of a cell beside, the layers below `from` are behind whoever stands at `y`
 pub record Left (tall climb y : ℕ) (ys ws : List ℕ) (s : Side) (from : ℕ) : Type 0 where

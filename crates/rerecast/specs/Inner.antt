@@ -1,40 +1,32 @@
 -- What the inner functions' answers mean. No public contract cites this file.
-use Rattle.std.specs.Prelude.{◌≡◌, true, false, List, ℕ, ◌*◌, ◌≤◌, length, replicate}
+use Rattle.std.specs.Prelude.{◌≡◌, true, false, List, ℕ, ◌≤◌, length, replicate, Option, Some, None, Result, Ok, Err}
 use Rattle.replies.specs.Said.{just, Asks}
 use Rattle.grid.specs.declared.Grid.{Grid}
+use Rattle.grid.specs.declared.sizes.Size.{Size}
 use Rattle.grid.specs.Grid.{width, height, columns, grid_says}
 use Rattle.field.specs.Field.{Inserted}
 use Rattle.field.specs.Store.{Store, store, Fitting, Sound, cleared, left, Outcome, Admits}
 use Rattle.field.specs.Marks.{Marked, Broken, MarkedAll, BrokenAll}
-use Rattle.rerecast.specs.Answer.{said_of}
-use Rattle.rerecast.specs.declared.admission.Admission.{Admission}
-use Rattle.rerecast.specs.declared.admission.Admission.TheVariants as admission
-use Rattle.rerecast.specs.declared.insertion.Landing.{Landing}
-use Rattle.rerecast.specs.declared.insertion.Landing.TheVariants as landing
-use Rattle.rerecast.specs.declared.soundness.Tally.{Tally}
-use Rattle.rerecast.specs.declared.soundness.Tally.TheVariants as tally
+use Rattle.rerecast.specs.Answer.{refusal_says}
+use Rattle.rerecast.specs.declared.Refusal.{Refusal}
+use Rattle.rerecast.specs.declared.insertion.Landed.{Landed}
 
 -- an insertion that went as the rule says
-abbrev pub Lands : Landing → Inserted → Type 0
-Lands (landing.Landed slot merged) o = (o.accepted ≡ true) × ((slot ≡ o.slot) × (merged ≡ o.merged))
-Lands landing.Refused o = o.accepted ≡ false
+abbrev pub Lands : Option Landed → Inserted → Type 0
+Lands (Some l) o = (o.accepted ≡ true) × ((l.slot ≡ o.slot) × (l.merged ≡ o.merged))
+Lands None o = o.accepted ≡ false
 
 -- a chain whose slots were marked, or that is none to be marked
-abbrev pub Marks : Tally → List ℕ → List ℕ → ℕ → (List ℕ → Type 0) → List ℕ → Type 0
-Marks (tally.Marked n) nexts marks h Fair marks' = Marked nexts marks h Fair marks' n
-Marks tally.Broken nexts marks h Fair marks' = Broken nexts marks h Fair
+abbrev pub Marks : Option ℕ → List ℕ → List ℕ → ℕ → (List ℕ → Type 0) → List ℕ → Type 0
+Marks (Some n) nexts marks h Fair marks' = Marked nexts marks h Fair marks' n
+Marks None nexts marks h Fair marks' = Broken nexts marks h Fair
 
 -- the same of all columns
-abbrev pub MarksAll : Tally → List ℕ → List ℕ → List ℕ → List ℕ → List ℕ → Type 0
-MarksAll (tally.Marked n) heads floors ceilings nexts marks' = MarkedAll heads floors ceilings nexts marks' n
-MarksAll tally.Broken heads floors ceilings nexts marks' = BrokenAll heads floors ceilings nexts
+abbrev pub MarksAll : Option ℕ → List ℕ → List ℕ → List ℕ → List ℕ → List ℕ → Type 0
+MarksAll (Some n) heads floors ceilings nexts marks' = MarkedAll heads floors ceilings nexts marks' n
+MarksAll None heads floors ceilings nexts marks' = BrokenAll heads floors ceilings nexts
 
 -- ---- the tests in front of a call
-
--- the grid's: its width and height, or the refusal
-abbrev pub Sizes : Admission → Grid → Type 0
-Sizes (admission.Granted w h) g = ((grid_says g).number ≡ 0) × ((w ≡ width g) × (h ≡ height g))
-Sizes (admission.Refused r) g = ((grid_says g).number ≡ 0 → ⊥) × (said_of r ≡ grid_says g)
 
 -- the slices fit n columns, and so does the shortest of the call's further ones
 abbrev pub Fitted : ℕ → ℕ → Store → Type 0
@@ -50,13 +42,13 @@ pub record Passed (n shortest : ℕ) (s : Store) (marks' : List ℕ) : Type 0 wh
 abbrev pub Nothing : Outcome → Type 0
 Nothing o = ⊥
 
-abbrev pub AdmitsStore : Admission → ℕ → ℕ → ℕ → Store → List ℕ → Type 0
-AdmitsStore (admission.Granted w' h') w h shortest s marks' = ((w' ≡ w) × (h' ≡ h)) × Passed (w * h) shortest s marks'
-AdmitsStore (admission.Refused r) w h shortest s marks' =
-    Asks (Fitted (w * h) shortest s) (left (just 4) s) (Asks (Sound (w * h) s) (left (just 14) (cleared s)) Nothing) (left (said_of r) (store s.heads s.slots marks'))
+abbrev pub AdmitsStore : Result Unit Refusal → ℕ → ℕ → Store → List ℕ → Type 0
+AdmitsStore (Ok done) n shortest s marks' = Passed n shortest s marks'
+AdmitsStore (Err r) n shortest s marks' =
+    Asks (Fitted n shortest s) (left (just 4) s) (Asks (Sound n s) (left (just 14) (cleared s)) Nothing) (left (refusal_says r) (store s.heads s.slots marks'))
 
-abbrev pub AdmitsCall : Admission → Grid → ℕ → Store → List ℕ → Type 0
-AdmitsCall (admission.Granted w h) g shortest s marks' =
-    ((grid_says g).number ≡ 0) × (((w ≡ width g) × (h ≡ height g)) × Passed (columns g) shortest s marks')
-AdmitsCall (admission.Refused r) g shortest s marks' =
-    Admits left g (Fitted (columns g) shortest s) s Nothing (left (said_of r) (store s.heads s.slots marks'))
+abbrev pub AdmitsCall : Result Size Refusal → Grid → ℕ → Store → List ℕ → Type 0
+AdmitsCall (Ok size) g shortest s marks' =
+    ((grid_says g).number ≡ 0) × (((size.width ≡ width g) × (size.height ≡ height g)) × Passed (columns g) shortest s marks')
+AdmitsCall (Err r) g shortest s marks' =
+    Admits left g (Fitted (columns g) shortest s) s Nothing (left (refusal_says r) (store s.heads s.slots marks'))

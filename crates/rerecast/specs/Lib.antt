@@ -1,4 +1,5 @@
 pub mod Answer
+pub mod Lent
 pub mod Inner
 pub mod Compacting
 pub mod PreFilter

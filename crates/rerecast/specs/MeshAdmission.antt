@@ -1,27 +1,20 @@
 -- What the answers of a mesh's tests mean. No public contract cites this file.
-use Rattle.std.specs.Prelude.{◌≡◌, List, [], ◌∷◌, ℕ, length, replicate}
-use Rattle.replies.specs.Said.{Said, real, say, just, Asks}
+use Rattle.std.specs.Prelude.{◌≡◌, List, ℕ, length, replicate, Result, Ok, Err}
+use Rattle.replies.specs.Said.{just, Asks}
 use Rattle.grid.specs.declared.Grid.{Grid}
+use Rattle.grid.specs.declared.sizes.Size.{Size}
 use Rattle.grid.specs.Grid.{width, height, columns, grid_says}
 use Rattle.field.specs.Field.{Field}
 use Rattle.field.specs.Store.{Store, store, Fitting, Sound, left}
 use Rattle.field.specs.Carrying.{Meshed}
 use Rattle.field.specs.Meshes.{Mesh, Shaped, Named, vertices_say, Given}
-use Rattle.rerecast.specs.Answer.{said_of}
-use Rattle.rerecast.specs.declared.admission.Admission.{Admission}
-use Rattle.rerecast.specs.declared.admission.Admission.TheVariants as admission
-use Rattle.rerecast.specs.declared.mesh_admission.Limits.{Limits}
-use Rattle.rerecast.specs.declared.mesh_admission.Limits.TheVariants.{Inside, Outside}
-
--- what a test of the vertex numbers says
-abbrev pub limits_say : Limits → Said
-limits_say Inside = just 0
-limits_say (Outside x) = say 1 (real x ∷ [])
+use Rattle.rerecast.specs.Answer.{refusal_says}
+use Rattle.rerecast.specs.declared.Refusal.{Refusal}
 
 -- 10 and 1 are passed, or one of them is given
-abbrev pub AdmitsNumbers : Admission → ℕ → ℕ → Mesh → Type 0
-AdmitsNumbers (admission.Granted w' h') w h m = ((w' ≡ w) × (h' ≡ h)) × (Named m × ((vertices_say m).number ≡ 0))
-AdmitsNumbers (admission.Refused r) w h m = Asks (Named m) (just 10) (Asks ((vertices_say m).number ≡ 0) (vertices_say m) (λ o. ⊥)) (said_of r)
+abbrev pub AdmitsNumbers : Result Unit Refusal → Mesh → Type 0
+AdmitsNumbers (Ok done) m = Named m × ((vertices_say m).number ≡ 0)
+AdmitsNumbers (Err r) m = Asks (Named m) (just 10) (Asks ((vertices_say m).number ≡ 0) (vertices_say m) (λ o. ⊥)) (refusal_says r)
 
 -- all tests are passed, and the marks are 0
 pub record Passes (w h : ℕ) (g : Grid) (m : Mesh) (s : Store) (marks' : List ℕ) : Type 0 where
@@ -36,6 +29,6 @@ pub record Passes (w h : ℕ) (g : Grid) (m : Mesh) (s : Store) (marks' : List �
   pub inside : (vertices_say m).number ≡ 0
 
 -- a refusal does not depend on what the call would make of the field
-abbrev pub AdmitsMesh : Admission → Grid → Mesh → Store → List ℕ → Type 0
-AdmitsMesh (admission.Granted w h) g m s marks' = Passes w h g m s marks'
-AdmitsMesh (admission.Refused r) g m s marks' = (build : Field → Meshed) → Given g m build s (left (said_of r) (store s.heads s.slots marks'))
+abbrev pub AdmitsMesh : Result Size Refusal → Grid → Mesh → Store → List ℕ → Type 0
+AdmitsMesh (Ok size) g m s marks' = Passes size.width size.height g m s marks'
+AdmitsMesh (Err r) g m s marks' = (build : Field → Meshed) → Given g m build s (left (refusal_says r) (store s.heads s.slots marks'))

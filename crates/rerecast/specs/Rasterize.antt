@@ -1,6 +1,5 @@
 -- What the answers of the rasteriser's inner functions mean. No public contract cites this file.
-use Rattle.std.specs.Prelude.{◌≡◌, List, [], ◌∷◌, ℕ, ◌-◌, ◌*◌, ◌<◌, ◌≤◌, length, Float}
-use Rattle.replies.specs.Said.{Said, whole, say, just}
+use Rattle.std.specs.Prelude.{◌≡◌, List, [], ◌∷◌, ℕ, ◌-◌, ◌*◌, ◌<◌, ◌≤◌, length, Float, Result, Ok, Err}
 use Rattle.grid.specs.declared.Corner.{Corner}
 use Rattle.clip.specs.declared.cut.Counts.{Counts}
 use Rattle.clip.specs.declared.frame.Frame.{Frame}
@@ -10,46 +9,33 @@ use Rattle.field.specs.Field.{Field, Holds}
 use Rattle.field.specs.Carrying.{Meshed, says_of, leaves, Work, carry}
 use Rattle.field.specs.Working.{Remains, turn_events}
 use Rattle.rerecast.specs.declared.turns.Job.{Job}
-use Rattle.rerecast.specs.declared.rasterize.Ending.{Ending}
-use Rattle.rerecast.specs.declared.rasterize.Ending.TheVariants.{Placed, Halted}
 use Rattle.rerecast.specs.declared.turns.Part.{Part}
 use Rattle.rerecast.specs.declared.turns.Part.TheVariants as part
-use Rattle.rerecast.specs.declared.turns.Step.{Step}
-use Rattle.rerecast.specs.declared.turns.Step.TheVariants.{Went, Stopped}
-use Rattle.rerecast.specs.declared.turns.Stop.{Stop}
-use Rattle.rerecast.specs.declared.turns.Stop.TheVariants.{NoSlot, EighthVertex, TooHigh}
-
-abbrev pub number_of : Stop → ℕ
-number_of NoSlot = 5
-number_of EighthVertex = 6
-number_of TooHigh = 7
-
--- what a mesh that ended says
-abbrev pub ending_says : Ending → Said
-ending_says Placed = just 0
-ending_says (Halted why t made) = say (number_of why) (whole t ∷ whole made ∷ [])
+use Rattle.rerecast.specs.declared.turns.Halt.{Halt}
+use Rattle.rerecast.specs.declared.Refusal.{Refusal}
+use Rattle.rerecast.specs.Answer.{number_of, said_of}
 
 -- how many insertions were made, and what is left of the work: nothing, or its stop
-abbrev pub made_by : Step → ℕ
-made_by (Went made) = made
-made_by (Stopped why made) = made
+abbrev pub made_by : Result ℕ Halt → ℕ
+made_by (Ok made) = made
+made_by (Err halt) = halt.made
 
-abbrev pub left_by : Step → List Event
-left_by (Went made) = []
-left_by (Stopped why made) = stop (number_of why) ∷ []
+abbrev pub left_by : Result ℕ Halt → List Event
+left_by (Ok made) = []
+left_by (Err halt) = stop (number_of halt.why) ∷ []
 
 -- The work `es` on the field `f`, with `made` insertions before it, went as the step says, and the store holds the field that it leaves.
-abbrev pub Carries : Job → ℕ → Field → List Event → Step → List ℕ → Slots → Type 0
+abbrev pub Carries : Job → ℕ → Field → List Event → Result ℕ Halt → List ℕ → Slots → Type 0
 Carries job made f es r heads t =
     Remains job.frame.width job.threshold job.area (carry job.frame.width job.threshold job.area made f es) (made_by r) (left_by r) heads t
 
 -- the same of a triangle's whole work
-abbrev pub Worked : Frame → ℕ → Work → Field → Step → List ℕ → Slots → Type 0
+abbrev pub Worked : Frame → ℕ → Work → Field → Result ℕ Halt → List ℕ → Slots → Type 0
 Worked frame threshold w f r heads t = Remains frame.width threshold w.area (carry frame.width threshold w.area 0 f w.events) (made_by r) (left_by r) heads t
 
--- a mesh came to `o`: its ending says so, and the store holds the field that it leaves
-pub record MeshWorked (o : Meshed) (e : Ending) (heads : List ℕ) (t : Slots) : Type 0 where
-  pub says : ending_says e ≡ says_of o
+-- a mesh came to `o`: its answer says so, and the store holds the field that it leaves
+pub record MeshWorked (o : Meshed) (r : Result Unit Refusal) (heads : List ℕ) (t : Slots) : Type 0 where
+  pub says : said_of r ≡ says_of o
   pub holds : Holds heads t (leaves o)
 
 -- what the counts of a cut say of row or column k

@@ -1,43 +1,14 @@
 // The tests in front of every call: the grid's, the slices' and the field's.
-ghost use Rattle.std.specs.Prelude.{◌≡◌, ◌*◌, ◌≤◌};
-ghost use Rattle.field.specs.Slots.{slots};
+ghost use Rattle.std.specs.Prelude.{◌*◌};
 ghost use Rattle.field.specs.Store.{store, Fit};
 ghost use Rattle.field.specs.Inner.{Says};
-ghost use Rattle.rerecast.specs.Inner.{Sizes, AdmitsStore, AdmitsCall};
+ghost use Rattle.rerecast.specs.Inner.{AdmitsStore, AdmitsCall};
+ghost use Rattle.rerecast.specs.Lent.{slots_in};
 
-use crate::Reply;
-use crate::slices::index;
+use crate::Refusal;
+use crate::lent::Columns;
 use crate::soundness::is_sound;
-use grid::{Grid, GridReply};
-
-// What the tests find.
-#[derive(Clone, Copy)]
-pub(crate) enum Admission {
-    // the grid's width and height
-    Granted(u32, u32),
-    Refused(Reply),
-}
-
-// The grid's tests.
-pub(crate) fn size_of(grid: Grid) -> Admission
-    ensures { Sizes result grid }
-{
-    let answer = grid::check(grid);
-    match answer {
-        GridReply::Fine(width, height) => Admission::Granted(width, height),
-        GridReply::BadNumber(x) => Admission::Refused(Reply::BadNumber(x)),
-        GridReply::BoxOrder => Admission::Refused(Reply::BoxOrder),
-        GridReply::GridSize(width, height) => Admission::Refused(Reply::GridSize(width, height)),
-    }
-}
-
-// How many columns a grid has.
-pub(crate) fn columns_of(width: u32, height: u32) -> usize
-    requires { width * height ≤ 1048576 }
-    ensures { result ≡ width * height }
-{
-    index(width) * index(height)
-}
+use grid::{Grid, Size};
 
 // Whether slices of these lengths fit a grid of `n` columns.
 pub(crate) fn slices_fit(
@@ -50,85 +21,60 @@ pub(crate) fn slices_fit(
 ) -> bool
     ensures { Says result (Fit n heads floors ceilings areas nexts) }
 {
-    if heads < n {
-        return false;
-    }
-    if floors != nexts {
-        return false;
-    }
-    if ceilings != nexts {
-        return false;
-    }
-    if areas != nexts {
-        return false;
-    }
-    if nexts == 0 {
-        return false;
-    }
-    nexts <= 1048576
+    let even = floors == nexts && ceilings == nexts && areas == nexts;
+    even && n <= heads && 0 < nexts && nexts <= 1048576
 }
 
 // The tests of the slices and of the field, for a grid that is accepted.
 fn admit_store(
-    heads: &[u32],
-    free: u32,
-    floors: &[u16],
-    ceilings: &[u16],
+    size: Size,
+    columns: &Columns<'_>,
     areas: &[u8],
-    nexts: &[u32],
     marks: &mut [u8],
     shortest: usize,
-    width: u32,
-    height: u32,
-) -> Admission
-    requires { width * height ≤ 1048576 }
-    ensures { AdmitsStore result width height shortest (store heads.now (slots free floors.now ceilings.now areas.now nexts.now) marks.old) marks.new }
+) -> Result<(), Refusal>
+    ensures { AdmitsStore result (size.width * size.height) shortest (store columns.now.heads.now (slots_in columns.now areas.now) marks.old) marks.new }
 {
-    let n = columns_of(width, height);
+    let n = size.columns();
     let fit = slices_fit(
         n,
-        heads.len(),
-        floors.len(),
-        ceilings.len(),
+        columns.heads.len(),
+        columns.floors.len(),
+        columns.ceilings.len(),
         areas.len(),
-        nexts.len(),
+        columns.nexts.len(),
     );
     if !fit {
-        return Admission::Refused(Reply::Slices);
+        return Err(Refusal::Slices);
     }
-    if marks.len() != nexts.len() {
-        return Admission::Refused(Reply::Slices);
+    if marks.len() != columns.nexts.len() {
+        return Err(Refusal::Slices);
     }
     if shortest < n {
-        return Admission::Refused(Reply::Slices);
+        return Err(Refusal::Slices);
     }
-    let sound = is_sound(&heads[..n], free, floors, ceilings, nexts, marks);
-    if !sound {
-        return Admission::Refused(Reply::Unsound);
+    let held = Columns {
+        heads: &columns.heads[..n],
+        ..*columns
+    };
+    if !is_sound(&held, marks) {
+        return Err(Refusal::Unsound);
     }
-    Admission::Granted(width, height)
+    Ok(())
 }
 
 // All of them, in their order. `shortest` is the length of the shortest further slice that the call needs an entry of for each column; where it needs
 // none, the number of heads serves.
 pub(crate) fn admit(
     grid: Grid,
-    heads: &[u32],
-    free: u32,
-    floors: &[u16],
-    ceilings: &[u16],
+    columns: &Columns<'_>,
     areas: &[u8],
-    nexts: &[u32],
     marks: &mut [u8],
     shortest: usize,
-) -> Admission
-    ensures { AdmitsCall result grid shortest (store heads.now (slots free floors.now ceilings.now areas.now nexts.now) marks.old) marks.new }
+) -> Result<Size, Refusal>
+    ensures { AdmitsCall result grid shortest (store columns.now.heads.now (slots_in columns.now areas.now) marks.old) marks.new }
 {
-    let size = size_of(grid);
-    match size {
-        Admission::Refused(r) => Admission::Refused(r),
-        Admission::Granted(width, height) => admit_store(
-            heads, free, floors, ceilings, areas, nexts, marks, shortest, width, height,
-        ),
-    }
+    let size = grid::check(grid)?;
+    admit_store(size, columns, areas, marks, shortest)?;
+    Ok(size)
 }

@@ -1,155 +1,114 @@
 // The compact result of a field: the open spaces above its walkable spans, column by column, and the links between those of columns side by side.
-ghost use Rattle.std.specs.Prelude.{◌≡◌, cond, ℕ, ◌+◌, ◌-◌, ◌*◌, ◌≤◌, ◌<◌, min, max, length, get_or, take, replicate, eqb};
+ghost use Rattle.std.specs.Prelude.{◌≡◌, cond, ℕ, ◌+◌, ◌*◌, ◌≤◌, ◌<◌, length, get_or, take, replicate, eqb};
 ghost use mathlib.Core.List.{List, map, flatten};
-ghost use Rattle.field.specs.Slots.{none, contents, span_at, slots, Sized};
+ghost use Rattle.field.specs.Slots.{none, contents, span_at, slots};
 ghost use Rattle.field.specs.Field.{Field, Holds, Held};
 ghost use Rattle.field.specs.Store.{store};
 ghost use Rattle.field.specs.Inner.{Says, Chain};
-ghost use Rattle.field.specs.Beside.{beside};
-ghost use Rattle.field.specs.Open.{space, open_above, opens, columns_of, cells};
-ghost use Rattle.field.specs.Links.{passes, largest, missed, largest_missed};
+ghost use Rattle.field.specs.Open.{open_above, opens, columns_of, cells};
+ghost use Rattle.field.specs.Links.{passes, largest_missed};
 ghost use Rattle.field.specs.Compact.{rows, result_of, Room, Few, complete, outcome, raised_top, complete_says, Compacts, Compacted};
-ghost use Rattle.field.specs.Rowing.{laid, raised_by, Layable, Laid, Filled};
-ghost use Rattle.rerecast.specs.Answer.{said_of};
-ghost use Rattle.rerecast.specs.Compacting.{Tallies};
+ghost use Rattle.field.specs.Rowing.{Layable, Laid, Filled};
+ghost use Rattle.rerecast.specs.Answer.{told_of};
+ghost use Rattle.rerecast.specs.Lent.{slots_in, contents_in, compact_of, SameCompact, EvenSlots};
+ghost use Rattle.rerecast.specs.Compacting.{Tallies, Placed, LaidIn};
 
-use crate::Reply;
-use crate::admission::{Admission, admit, columns_of};
+use crate::Refusal;
+use crate::admission::admit;
+use crate::lent::{Columns, Compact};
 use crate::links::link_columns;
 use crate::pre_filter::roof_of;
-use crate::slices::index;
 use compact_cell::CompactCell;
 use compact_span::CompactSpan;
 use field::{NONE, Span};
-use grid::Grid;
+use grid::{Grid, Size};
 
 // ---- how many open spaces there are
 
-// How many open spaces a field has, unless some column has more than 255.
-#[derive(Clone, Copy)]
-enum Tally {
-    Crowded,
-    Total(usize),
-}
-
-// A count, with a span of an area more.
-fn one_more(n: usize, area: u8) -> usize
-    requires { n < none }
-    ensures { result ≡ cond (eqb area 0) n (n + 1) }
-{
-    if area == Span::NOT_WALKABLE { n } else { n + 1 }
-}
-
 // The number of walkable spans in the column that starts at `head`.
-fn count_column(areas: &[u8], nexts: &[u32], head: u32) -> usize
-    requires areas_len { length areas.now ≡ length nexts.now }
-    requires by_index { (ss : List ℕ) × Chain nexts.now head ss }
-    ensures { (fl ce ss : List ℕ) → Chain nexts.now head ss → result ≡ length (opens (map (span_at (contents fl ce areas.now)) ss)) }
+fn count_column(columns: &Columns<'_>, areas: &[u8], head: u32) -> usize
+    requires even { length areas.now ≡ length columns.now.nexts.now }
+    requires is_chain { (ss : List ℕ) × Chain columns.now.nexts.now head ss }
+    ensures { (floors ceilings ss : List ℕ) → Chain columns.now.nexts.now head ss → result ≡ length (opens (map (span_at (contents floors ceilings areas.now)) ss)) }
 {
     let mut at = head;
     let mut n: usize = 0;
     while at != NONE {
-        let i = index(at);
-        n = one_more(n, areas[i]);
-        at = nexts[i];
+        let i = at as usize;
+        if areas[i] != Span::NOT_WALKABLE {
+            n += 1;
+        }
+        at = columns.nexts[i];
     }
     n
 }
 
-// The number of open spaces of all columns.
-fn tally_columns(heads: &[u32], areas: &[u8], nexts: &[u32]) -> Tally
-    requires heads_len_bound { length heads.now ≤ 1048576 }
-    requires by_index { (free : ℕ) × (fl : List ℕ) × (ce : List ℕ) × (f : Field) × Holds heads.now (slots free fl ce areas.now nexts.now) f }
-    ensures { (free : ℕ) (fl ce : List ℕ) (f : Field) → Holds heads.now (slots free fl ce areas.now nexts.now) f → Tallies result (cells (columns_of f)) }
+// The number of open spaces of all columns, unless some column has more than 255.
+fn tally_columns(columns: &Columns<'_>, areas: &[u8]) -> Option<usize>
+    requires few { length columns.now.heads.now ≤ 1048576 }
+    requires held { (f : Field) × Holds columns.now.heads.now (slots_in columns.now areas.now) f }
+    ensures { (f : Field) → Holds columns.now.heads.now (slots_in columns.now areas.now) f → Tallies result (cells (columns_of f)) }
 {
-    let mut i = 0;
     let mut total: usize = 0;
-    while i < heads.len() {
-        let n = count_column(areas, nexts, heads[i]);
+    for head in columns.heads {
+        let n = count_column(columns, areas, *head);
         if (CompactCell::MAX_COUNT as usize) < n {
-            return Tally::Crowded;
+            return None;
         }
         total += n;
-        i += 1;
     }
-    Tally::Total(total)
+    Some(total)
 }
 
 // ---- the open spaces stored
 
 // Stores the open space above a span at place `k` and raises the count of its cell, if the span is walkable. Answers the next place.
-fn place(
-    cell_indices: &[u32],
-    cell_counts: &mut [u8],
-    ys: &mut [u16],
-    data: &mut [u32],
-    span_areas: &mut [u8],
-    column: usize,
-    k: usize,
-    span: Span,
-    top: u16,
-) -> usize
-    requires room { Room (k + length (open_above span top)) (rows ys.old «data».old span_areas.old) }
-    requires column_in_bounds { (column < length cell_indices.now) × (column < length cell_counts.old) × (get_or cell_counts.old column 0 + length (open_above span top) ≤ 255) }
-    ensures { (result ≡ k + length (open_above span top))
-        × (rows ys.new «data».new span_areas.new ≡ laid (rows ys.old «data».old span_areas.old) k (open_above span top))
-        × (cell_counts.new ≡ raised_by cell_counts.old column (length (open_above span top))) }
+fn place(compact: &mut Compact<'_>, column: usize, k: usize, span: Span, top: u16) -> usize
+    requires room { Room (k + length (open_above span top)) (compact_of compact.old).rows }
+    requires cell_there { (column < length compact.old.indices.now) × (column < length compact.old.counts.now)
+        × (get_or compact.old.counts.now column 0 + length (open_above span top) ≤ 255) }
+    ensures placed { Placed (compact_of compact.old) column k (open_above span top) result (compact_of compact.new) }
+    ensures same_compact { SameCompact compact.old compact.new }
 {
     if span.area == Span::NOT_WALKABLE {
         return k;
     }
     let s = CompactSpan::new(span.ceiling, CompactSpan::gap(span.ceiling, top));
-    ys[k] = s.y;
-    data[k] = s.data;
-    span_areas[k] = span.area;
+    compact.ys[k] = s.y;
+    compact.words[k] = s.data;
+    compact.areas[k] = span.area;
     // no column is crowded by now, so the count has room
-    compact_cell::raise_at(cell_indices, cell_counts, column);
+    compact.counts[column] += 1;
     k + 1
 }
 
 // Stores the open spaces of the column that starts at `head`, from place `start` on. Answers the place after them.
 fn fill_column(
-    floors: &[u16],
-    ceilings: &[u16],
+    columns: &Columns<'_>,
     areas: &[u8],
-    nexts: &[u32],
+    compact: &mut Compact<'_>,
     head: u32,
-    cell_indices: &[u32],
-    cell_counts: &mut [u8],
-    ys: &mut [u16],
-    data: &mut [u32],
-    span_areas: &mut [u8],
     column: usize,
     start: usize,
 ) -> usize
-    requires sized { Sized (slots 0 floors.now ceilings.now areas.now nexts.now) × (column < length cell_indices.now) }
-    requires by_index { (ss : List ℕ) × (Chain nexts.now head ss × Layable (contents floors.now ceilings.now areas.now) ss (rows ys.old «data».old span_areas.old) start cell_counts.old column) }
-    ensures { (ss : List ℕ) → Chain nexts.now head ss
-        → Laid (contents floors.now ceilings.now areas.now) ss (rows ys.old «data».old span_areas.old) start cell_counts.old column
-        (rows ys.new «data».new span_areas.new) result cell_counts.new }
+    requires even { EvenSlots columns.now × (length areas.now ≡ length columns.now.nexts.now) × (column < length compact.old.indices.now) }
+    requires layable { (ss : List ℕ)
+        × (Chain columns.now.nexts.now head ss × Layable (contents_in columns.now areas.now) ss (compact_of compact.old).rows start compact.old.counts.now column) }
+    ensures laid { (ss : List ℕ) → Chain columns.now.nexts.now head ss
+        → LaidIn (contents_in columns.now areas.now) ss (compact_of compact.old) start column (compact_of compact.new) result }
+    ensures same_compact { SameCompact compact.old compact.new }
 {
     let mut at = head;
     let mut k = start;
     while at != NONE {
-        let i = index(at);
-        let next = nexts[i];
-        let top = roof_of(floors, next);
+        let i = at as usize;
+        let next = columns.nexts[i];
         let span = Span {
-            floor: floors[i],
-            ceiling: ceilings[i],
+            floor: columns.floors[i],
+            ceiling: columns.ceilings[i],
             area: areas[i],
         };
-        k = place(
-            cell_indices,
-            cell_counts,
-            ys,
-            data,
-            span_areas,
-            column,
-            k,
-            span,
-            top,
-        );
+        k = place(compact, column, k, span, roof_of(columns.floors, next));
         at = next;
     }
     k
@@ -164,46 +123,20 @@ fn index_of(before: usize, count: usize) -> u32
 }
 
 // Stores the cells and the open spaces of all columns.
-fn fill_columns(
-    heads: &[u32],
-    floors: &[u16],
-    ceilings: &[u16],
-    areas: &[u8],
-    nexts: &[u32],
-    cell_indices: &mut [u32],
-    cell_counts: &mut [u8],
-    ys: &mut [u16],
-    data: &mut [u32],
-    span_areas: &mut [u8],
-)
-    requires heads_len_bound { (length heads.now ≤ 1048576) × (length heads.now ≤ length cell_indices.old) × (length heads.now ≤ length cell_counts.old) }
-    requires by_index { (free : ℕ) × (f : Field) × Holds heads.now (slots free floors.now ceilings.now areas.now nexts.now) f × Few (cells (columns_of f))
-        × Room (length (flatten (cells (columns_of f)))) (rows ys.old «data».old span_areas.old) }
-    ensures { (free : ℕ) (f : Field) → Holds heads.now (slots free floors.now ceilings.now areas.now nexts.now) f
-        → Filled (columns_of f) (result_of cell_indices.old cell_counts.old (rows ys.old «data».old span_areas.old))
-        (result_of cell_indices.new cell_counts.new (rows ys.new «data».new span_areas.new)) }
+fn fill_columns(columns: &Columns<'_>, areas: &[u8], compact: &mut Compact<'_>)
+    requires cells_there { (length columns.now.heads.now ≤ 1048576) × (length columns.now.heads.now ≤ length compact.old.indices.now) × (length columns.now.heads.now ≤ length compact.old.counts.now) }
+    requires held { (f : Field) × Holds columns.now.heads.now (slots_in columns.now areas.now) f × Few (cells (columns_of f))
+        × Room (length (flatten (cells (columns_of f)))) (compact_of compact.old).rows }
+    ensures filled { (f : Field) → Holds columns.now.heads.now (slots_in columns.now areas.now) f
+        → Filled (columns_of f) (compact_of compact.old) (compact_of compact.new) }
+    ensures same_compact { SameCompact compact.old compact.new }
 {
-    let mut i = 0;
     let mut k = 0;
-    while i < heads.len() {
-        cell_counts[i] = 0;
-        let end = fill_column(
-            floors,
-            ceilings,
-            areas,
-            nexts,
-            heads[i],
-            cell_indices,
-            cell_counts,
-            ys,
-            data,
-            span_areas,
-            i,
-            k,
-        );
-        cell_indices[i] = index_of(k, end - k);
+    for (column, head) in columns.heads.iter().enumerate() {
+        compact.counts[column] = 0;
+        let end = fill_column(columns, areas, compact, *head, column, k);
+        compact.indices[column] = index_of(k, end - k);
         k = end;
-        i += 1;
     }
 }
 
@@ -211,145 +144,81 @@ fn fill_columns(
 
 // Stores and links the compact result of a field that is not crowded, in slices that have room. Answers the largest layer missed, or 0.
 fn complete_columns(
-    heads: &[u32],
-    floors: &[u16],
-    ceilings: &[u16],
+    columns: &Columns<'_>,
     areas: &[u8],
-    nexts: &[u32],
-    cell_indices: &mut [u32],
-    cell_counts: &mut [u8],
-    ys: &mut [u16],
-    data: &mut [u32],
-    span_areas: &mut [u8],
-    width: usize,
-    depth: usize,
+    compact: &mut Compact<'_>,
+    size: Size,
     tall: u16,
     climb: u16,
 ) -> u8
-    requires heads_len { (length heads.now ≡ width * depth) × (width * depth ≤ 1048576) × (length heads.now ≤ length cell_indices.old) × (length heads.now ≤ length cell_counts.old) }
-    requires by_index { (free : ℕ) × (f : Field) × Holds heads.now (slots free floors.now ceilings.now areas.now nexts.now) f × Few (cells (columns_of f))
-        × Room (length (flatten (cells (columns_of f)))) (rows ys.old «data».old span_areas.old) }
-    ensures { (free : ℕ) (f : Field) → Holds heads.now (slots free floors.now ceilings.now areas.now nexts.now) f
-        → Room (length (flatten (cells (columns_of f)))) (rows ys.old «data».old span_areas.old)
-        → (result ≡ largest_missed (passes tall climb) width depth (cells (columns_of f)))
-        × (result_of cell_indices.new cell_counts.new (rows ys.new «data».new span_areas.new)
-        ≡ complete (passes tall climb) width depth (columns_of f)
-        (result_of cell_indices.old cell_counts.old (rows ys.old «data».old span_areas.old))) }
+    requires cells_there { (length columns.now.heads.now ≡ size.width * size.height) × (length columns.now.heads.now ≤ length compact.old.indices.now) × (length columns.now.heads.now ≤ length compact.old.counts.now) }
+    requires held { (f : Field) × Holds columns.now.heads.now (slots_in columns.now areas.now) f × Few (cells (columns_of f))
+        × Room (length (flatten (cells (columns_of f)))) (compact_of compact.old).rows }
+    ensures completed { (f : Field) → Holds columns.now.heads.now (slots_in columns.now areas.now) f
+        → Room (length (flatten (cells (columns_of f)))) (compact_of compact.old).rows
+        → (result ≡ largest_missed (passes tall climb) size.width size.height (cells (columns_of f)))
+        × (compact_of compact.new ≡ complete (passes tall climb) size.width size.height (columns_of f) (compact_of compact.old)) }
+    ensures same_compact { SameCompact compact.old compact.new }
 {
-    fill_columns(
-        heads,
-        floors,
-        ceilings,
-        areas,
-        nexts,
-        cell_indices,
-        cell_counts,
-        ys,
-        data,
-        span_areas,
-    );
-    link_columns(
-        cell_indices,
-        cell_counts,
-        ys,
-        data,
-        width,
-        depth,
-        tall,
-        climb,
-    )
+    fill_columns(columns, areas, compact);
+    link_columns(compact, size, tall, climb)
 }
 
-// Whether rows of these lengths have room for `n` open spaces.
-fn has_room(n: usize, ys: usize, data: usize, areas: usize) -> bool
-    ensures { Says result ((n ≤ ys) × (n ≤ «data») × (n ≤ areas)) }
+// Whether the lent result has room for `n` open spaces.
+fn has_room(n: usize, compact: &Compact<'_>) -> bool
+    ensures { Says result (Room n (compact_of compact.now).rows) }
 {
-    if ys < n {
-        return false;
-    }
-    if data < n {
-        return false;
-    }
-    n <= areas
+    n <= compact.ys.len() && n <= compact.words.len() && n <= compact.areas.len()
 }
 
-// The answer for a complete result.
-fn reply_of(layer: u8, top: f32) -> Reply
-    ensures { said_of result ≡ complete_says layer top }
+// The answer for a complete result, whose box ends at `top`.
+fn reply_of(layer: u8, top: f32) -> Result<f32, Refusal>
+    ensures { told_of result ≡ complete_says layer top }
 {
     if layer == 0 {
-        return Reply::Compacted(top);
+        Ok(top)
+    } else {
+        Err(Refusal::Layers(layer, top))
     }
-    Reply::Layers(layer, top)
 }
 
 // The greatest y of the reply's box.
 fn raised_top(grid: Grid, walkable_height: u16) -> f32
     ensures { result ≡ raised_top grid walkable_height }
 {
-    let high = grid.max.y;
-    high + (walkable_height as f32) * grid.cell_height
+    grid.max.y + f32::from(walkable_height) * grid.cell_height
 }
 
 // The compact result of a field that is known to be sound.
 fn compact_field(
-    heads: &[u32],
-    floors: &[u16],
-    ceilings: &[u16],
+    columns: &Columns<'_>,
     areas: &[u8],
-    nexts: &[u32],
-    cell_indices: &mut [u32],
-    cell_counts: &mut [u8],
-    ys: &mut [u16],
-    data: &mut [u32],
-    span_areas: &mut [u8],
-    width: u32,
-    height: u32,
+    compact: &mut Compact<'_>,
+    size: Size,
     top: f32,
     tall: u16,
     climb: u16,
-) -> Reply
-    requires height_in_bounds { ((width * height ≤ length heads.now) × (width * height ≤ 1048576)) × (width * height ≤ length cell_indices.old) × (width * height ≤ length cell_counts.old) }
-    requires by_index { (free : ℕ) × Held (take (width * height) heads.now) (slots free floors.now ceilings.now areas.now nexts.now) }
-    ensures { (free : ℕ) (marks : List ℕ) → Held (take (width * height) heads.now) (slots free floors.now ceilings.now areas.now nexts.now)
-        → Compacts width height top tall climb (store heads.now (slots free floors.now ceilings.now areas.now nexts.now) marks)
-        (result_of cell_indices.old cell_counts.old (rows ys.old «data».old span_areas.old))
-        (outcome (said_of result) (store heads.now (slots free floors.now ceilings.now areas.now nexts.now) (replicate (length nexts.now) 0))
-        (result_of cell_indices.new cell_counts.new (rows ys.new «data».new span_areas.new))) }
+) -> Result<f32, Refusal>
+    requires cells_there { (size.width * size.height ≤ length columns.now.heads.now) × (size.width * size.height ≤ length compact.old.indices.now) × (size.width * size.height ≤ length compact.old.counts.now) }
+    requires held { Held (take (size.width * size.height) columns.now.heads.now) (slots_in columns.now areas.now) }
+    ensures compacts { (marks : List ℕ)
+        → Compacts size.width size.height top tall climb (store columns.now.heads.now (slots_in columns.now areas.now) marks) (compact_of compact.old)
+        (outcome (told_of result) (store columns.now.heads.now (slots_in columns.now areas.now) (replicate (length columns.now.nexts.now) 0))
+        (compact_of compact.new)) }
+    ensures same_compact { SameCompact compact.old compact.new }
 {
-    let n = columns_of(width, height);
-    let tally = tally_columns(&heads[..n], areas, nexts);
-    let Tally::Total(total) = tally else {
-        return Reply::Crowded;
+    let held = Columns {
+        heads: &columns.heads[..size.columns()],
+        ..*columns
     };
-    let room = has_room(total, ys.len(), data.len(), span_areas.len());
-    if !room {
-        return Reply::SpansShort;
+    let Some(total) = tally_columns(&held, areas) else {
+        return Err(Refusal::Crowded);
+    };
+    if !has_room(total, compact) {
+        return Err(Refusal::SpansShort);
     }
-    let layer = complete_columns(
-        &heads[..n],
-        floors,
-        ceilings,
-        areas,
-        nexts,
-        cell_indices,
-        cell_counts,
-        ys,
-        data,
-        span_areas,
-        index(width),
-        index(height),
-        tall,
-        climb,
-    );
+    let layer = complete_columns(&held, areas, compact, size, tall, climb);
     reply_of(layer, top)
-}
-
-// The lesser of two lengths.
-fn shorter(a: usize, b: usize) -> usize
-    ensures { result ≡ min a b }
-{
-    if b < a { b } else { a }
 }
 
 // The compact result of a field: the open spaces above its walkable spans, each with links to the columns beside. The field is only read.
@@ -369,34 +238,36 @@ pub fn into_compact(
     span_areas: &mut [u8],
     walkable_height: u16,
     climb: u16,
-) -> Reply
+) -> Result<f32, Refusal>
     ensures { Compacted grid walkable_height climb (store heads.now (slots free.now floors.now ceilings.now areas.now nexts.now) marks.old)
         (result_of cell_indices.old cell_counts.old (rows ys.old «data».old span_areas.old))
-        (outcome (said_of result) (store heads.now (slots free.now floors.now ceilings.now areas.now nexts.now) marks.new)
+        (outcome (told_of result) (store heads.now (slots free.now floors.now ceilings.now areas.now nexts.now) marks.new)
         (result_of cell_indices.new cell_counts.new (rows ys.new «data».new span_areas.new))) }
 {
-    let shortest = shorter(cell_indices.len(), cell_counts.len());
-    let admission = admit(
-        grid, heads, *free, floors, ceilings, areas, nexts, marks, shortest,
-    );
-    match admission {
-        Admission::Refused(r) => r,
-        Admission::Granted(width, height) => compact_field(
-            heads,
-            floors,
-            ceilings,
-            areas,
-            nexts,
-            cell_indices,
-            cell_counts,
-            ys,
-            data,
-            span_areas,
-            width,
-            height,
-            raised_top(grid, walkable_height),
-            walkable_height,
-            climb,
-        ),
-    }
+    let columns = Columns {
+        heads,
+        free: *free,
+        floors,
+        ceilings,
+        nexts,
+    };
+    let shortest = cell_indices.len().min(cell_counts.len());
+    let size = admit(grid, &columns, areas, marks, shortest)?;
+    let mut compact = Compact {
+        indices: cell_indices,
+        counts: cell_counts,
+        ys,
+        words: data,
+        areas: span_areas,
+    };
+    let top = raised_top(grid, walkable_height);
+    compact_field(
+        &columns,
+        areas,
+        &mut compact,
+        size,
+        top,
+        walkable_height,
+        climb,
+    )
 }

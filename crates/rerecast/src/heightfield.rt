@@ -1,64 +1,64 @@
 // The field of spans over lent slices: a fresh one, one span more, and a mesh with the filters after it.
-ghost use Rattle.std.specs.Prelude.{◌≡◌, List, ℕ, ◌+◌, ◌*◌, ◌<◌, ◌≤◌, length, take, replicate};
+ghost use Rattle.std.specs.Prelude.{◌≡◌, List, ℕ, ◌+◌, ◌*◌, ◌<◌, ◌≤◌, length, get_or, take, replicate};
 ghost use Rattle.replies.specs.Said.{just, Asks};
 ghost use Rattle.field.specs.Slots.{slots};
-ghost use Rattle.clip.specs.Work.{frame_of};
+ghost use Rattle.field.specs.Inner.{after};
 ghost use Rattle.field.specs.Field.{Field, Holds, Held};
 ghost use Rattle.field.specs.Store.{store, Fits, left};
 ghost use Rattle.field.specs.Calls.{made, IsFresh, Freshened, Offers, Added};
-ghost use Rattle.field.specs.Meshes.{mesh, Shaped, Named, Builds};
-ghost use Rattle.field.specs.Populate.{filtered_by, populated, Populated};
+ghost use Rattle.field.specs.Meshes.{mesh};
+ghost use Rattle.field.specs.Populate.{filtered_by, Populated};
 ghost use Rattle.rerecast.specs.Answer.{said_of};
-ghost use Rattle.rerecast.specs.Rasterize.{MeshWorked, Sides, Ready};
+ghost use Rattle.rerecast.specs.Lent.{slots_of, slots_in, SameSlots};
 
-use crate::Reply;
-use crate::admission::{Admission, admit, columns_of, size_of, slices_fit};
-use crate::insertion::{Landing, insert_span};
-use crate::ledges::clear_columns;
+use crate::Refusal;
+use crate::admission::{admit, slices_fit};
+use crate::insertion::insert_span;
+use crate::ledges::{Agent, clear_columns};
+use crate::lent::{Columns, Mesh, Slots};
 use crate::mesh_admission::admit_mesh;
 use crate::pre_filter::{lower_columns, raise_columns};
-use crate::rasterize::{Ending, reply_of, triangles};
-use crate::slices::{chain_slots, clear_bytes, clear_heads, clear_heights, index};
-use clip::frame::{Frame, frame_of};
-use field::Span;
-use grid::Grid;
+use crate::rasterize::take_mesh;
+use field::{NONE, Span};
+use grid::{Grid, Size};
+
+// Each slot's next is the slot after it, and the last has none.
+fn chain_slots(nexts: &mut [u32])
+    requires { (0 < length nexts.old) × (length nexts.old ≤ 1048576) }
+    ensures { (length nexts.new ≡ length nexts.old) × ((k : ℕ) → k < length nexts.old → get_or nexts.new k 0 ≡ after (length nexts.old) k) }
+{
+    for (i, next) in nexts.iter_mut().enumerate() {
+        *next = (i + 1) as u32;
+    }
+    let last = nexts.len() - 1;
+    nexts[last] = NONE;
+}
 
 // A fresh field for a grid that is accepted.
-fn fresh_store(
-    heads: &mut [u32],
-    free: &mut u32,
-    floors: &mut [u16],
-    ceilings: &mut [u16],
-    areas: &mut [u8],
-    nexts: &mut [u32],
-    width: u32,
-    height: u32,
-) -> Reply
-    requires { width * height ≤ 1048576 }
-    ensures { Asks (Fits (width * height) heads.old (slots free.old floors.old ceilings.old areas.old nexts.old))
-        (made (just 4) heads.old (slots free.old floors.old ceilings.old areas.old nexts.old))
-        (IsFresh (width * height) heads.old (slots free.old floors.old ceilings.old areas.old nexts.old))
-        (made (said_of result) heads.new (slots free.new floors.new ceilings.new areas.new nexts.new)) }
+fn fresh_store(heads: &mut [u32], slots: &mut Slots<'_>, size: Size) -> Result<(), Refusal>
+    ensures fresh { Asks (Fits (size.width * size.height) heads.old (slots_of slots.old)) (made (just 4) heads.old (slots_of slots.old))
+        (IsFresh (size.width * size.height) heads.old (slots_of slots.old)) (made (said_of result) heads.new (slots_of slots.new)) }
+    ensures same_slots { SameSlots slots.old slots.new }
 {
-    let n = columns_of(width, height);
+    let n = size.columns();
     let fit = slices_fit(
         n,
         heads.len(),
-        floors.len(),
-        ceilings.len(),
-        areas.len(),
-        nexts.len(),
+        slots.floors.len(),
+        slots.ceilings.len(),
+        slots.areas.len(),
+        slots.nexts.len(),
     );
     if !fit {
-        return Reply::Slices;
+        return Err(Refusal::Slices);
     }
-    clear_heads(&mut heads[..n]);
-    clear_heights(floors);
-    clear_heights(ceilings);
-    clear_bytes(areas);
-    chain_slots(nexts);
-    *free = 0;
-    Reply::Accepted
+    heads[..n].fill(NONE);
+    slots.floors.fill(0);
+    slots.ceilings.fill(0);
+    slots.areas.fill(0);
+    chain_slots(slots.nexts);
+    *slots.free = 0;
+    Ok(())
 }
 
 // Makes a fresh field: every column is empty, and every slot is free, in the order of the slots' numbers.
@@ -70,72 +70,44 @@ pub fn fresh(
     ceilings: &mut [u16],
     areas: &mut [u8],
     nexts: &mut [u32],
-) -> Reply
+) -> Result<(), Refusal>
     ensures { Freshened grid heads.old (slots free.old floors.old ceilings.old areas.old nexts.old) (made (said_of result) heads.new (slots free.new floors.new ceilings.new areas.new nexts.new)) }
 {
-    let size = size_of(grid);
-    match size {
-        Admission::Refused(r) => r,
-        Admission::Granted(width, height) => {
-            fresh_store(heads, free, floors, ceilings, areas, nexts, width, height)
-        }
-    }
-}
-
-// The number of the column at x, z.
-fn column_of(x: u32, z: u32, width: u32, height: u32) -> usize
-    requires { (x < width) × (z < height) × (width * height ≤ 1048576) }
-    ensures { (result ≡ x + z * width) × (result < width * height) }
-{
-    index(x) + index(z) * index(width)
-}
-
-// Offers a span to a field that is known to be sound.
-fn offer(
-    heads: &mut [u32],
-    free: &mut u32,
-    floors: &mut [u16],
-    ceilings: &mut [u16],
-    areas: &mut [u8],
-    nexts: &mut [u32],
-    width: u32,
-    height: u32,
-    x: u32,
-    z: u32,
-    new: Span,
-    threshold: u16,
-) -> Reply
-    requires height_in_bounds { (width * height ≤ length heads.old) × (width * height ≤ 1048576) }
-    requires held { Held (take (width * height) heads.old) (slots free.old floors.old ceilings.old areas.old nexts.old) }
-    ensures { (marks : List ℕ)
-        → Offers width height x z new threshold (store heads.old (slots free.old floors.old ceilings.old areas.old nexts.old) marks)
-        (left (said_of result) (store heads.new (slots free.new floors.new ceilings.new areas.new nexts.new) (replicate (length nexts.old) 0))) }
-{
-    if x >= width {
-        return Reply::OffGrid;
-    }
-    if z >= height {
-        return Reply::OffGrid;
-    }
-    if new.ceiling < new.floor {
-        return Reply::Inverted;
-    }
-    let n = columns_of(width, height);
-    let column = column_of(x, z, width, height);
-    let landing = insert_span(
-        &mut heads[..n],
+    let size = grid::check(grid)?;
+    let mut slots = Slots {
         free,
         floors,
         ceilings,
         areas,
         nexts,
-        column,
-        new,
-        threshold,
-    );
-    match landing {
-        Landing::Landed { slot: _, merged: _ } => Reply::Accepted,
-        Landing::Refused => Reply::NoSlot,
+    };
+    fresh_store(heads, &mut slots, size)
+}
+
+// Offers a span to a field that is known to be sound.
+fn offer(
+    heads: &mut [u32],
+    slots: &mut Slots<'_>,
+    size: Size,
+    x: u32,
+    z: u32,
+    new: Span,
+    threshold: u16,
+) -> Result<(), Refusal>
+    requires all_columns { size.width * size.height ≤ length heads.old }
+    requires held { Held (take (size.width * size.height) heads.old) (slots_of slots.old) }
+    ensures offered { (marks : List ℕ)
+        → Offers size.width size.height x z new threshold (store heads.old (slots_of slots.old) marks)
+        (left (said_of result) (store heads.new (slots_of slots.new) (replicate (length slots.old.nexts.now) 0))) }
+    ensures same_slots { SameSlots slots.old slots.new }
+{
+    let column = size.column(x, z).ok_or(Refusal::OffGrid)?;
+    if new.ceiling < new.floor {
+        return Err(Refusal::Inverted);
+    }
+    match insert_span(&mut heads[..size.columns()], slots, column, new, threshold) {
+        Some(_) => Ok(()),
+        None => Err(Refusal::NoSlot),
     }
 }
 
@@ -153,148 +125,40 @@ pub fn add_span(
     z: u32,
     new: Span,
     threshold: u16,
-) -> Reply
+) -> Result<(), Refusal>
     ensures { Added grid x z new threshold (store heads.old (slots free.old floors.old ceilings.old areas.old nexts.old) marks.old)
         (left (said_of result) (store heads.new (slots free.new floors.new ceilings.new areas.new nexts.new) marks.new)) }
 {
-    let columns = heads.len();
-    let admission = admit(
-        grid, heads, *free, floors, ceilings, areas, nexts, marks, columns,
-    );
-    match admission {
-        Admission::Refused(r) => r,
-        Admission::Granted(width, height) => offer(
-            heads, free, floors, ceilings, areas, nexts, width, height, x, z, new, threshold,
-        ),
-    }
+    let columns = Columns {
+        heads,
+        free: *free,
+        floors,
+        ceilings,
+        nexts,
+    };
+    let size = admit(grid, &columns, areas, marks, columns.heads.len())?;
+    let mut slots = Slots {
+        free,
+        floors,
+        ceilings,
+        areas,
+        nexts,
+    };
+    offer(heads, &mut slots, size, x, z, new, threshold)
 }
 
 // ---- a mesh and the filters
 
 // The three filters on a sound field, in their order.
-fn filter_all(
-    heads: &[u32],
-    floors: &[u16],
-    ceilings: &[u16],
-    areas: &mut [u8],
-    nexts: &[u32],
-    width: u32,
-    height: u32,
-    walkable_height: u16,
-    walkable_climb: u16,
-)
-    requires height_value { (width * height ≡ length heads.now) × (width * height ≤ 1048576) }
-    requires by_index { (free : ℕ) × Held heads.now (slots free floors.now ceilings.now areas.old nexts.now) }
-    ensures { (free : ℕ) (f : Field) → Holds heads.now (slots free floors.now ceilings.now areas.old nexts.now) f
-        → Holds heads.now (slots free floors.now ceilings.now areas.new nexts.now) (filtered_by width height walkable_height walkable_climb f) }
+fn filter_all(columns: &Columns<'_>, areas: &mut [u8], size: Size, agent: Agent)
+    requires all_columns { size.width * size.height ≡ length columns.now.heads.now }
+    requires held { Held columns.now.heads.now (slots_in columns.now areas.old) }
+    ensures { (f : Field) → Holds columns.now.heads.now (slots_in columns.now areas.old) f
+        → Holds columns.now.heads.now (slots_in columns.now areas.new) (filtered_by size.width size.height agent.height agent.climb f) }
 {
-    raise_columns(heads, ceilings, areas, nexts, walkable_climb);
-    clear_columns(
-        heads,
-        floors,
-        ceilings,
-        areas,
-        nexts,
-        index(width),
-        index(height),
-        walkable_height,
-        walkable_climb,
-    );
-    lower_columns(heads, floors, ceilings, areas, nexts, walkable_height);
-}
-
-// A mesh into a sound field, and the filters once all of it is placed.
-fn build(
-    heads: &mut [u32],
-    free: &mut u32,
-    floors: &mut [u16],
-    ceilings: &mut [u16],
-    areas: &mut [u8],
-    nexts: &mut [u32],
-    frame: Frame,
-    vertices: &[f32],
-    indices: &[u32],
-    triangle_areas: &[u8],
-    walkable_height: u16,
-    walkable_climb: u16,
-) -> Ending
-    requires ready { Ready frame heads.old × Shaped (mesh vertices.now indices.now triangle_areas.now) × Named (mesh vertices.now indices.now triangle_areas.now) }
-    requires held { Held heads.old (slots free.old floors.old ceilings.old areas.old nexts.old) }
-    ensures { (f : Field) → Holds heads.old (slots free.old floors.old ceilings.old areas.old nexts.old) f
-        → MeshWorked (populated frame (mesh vertices.now indices.now triangle_areas.now) walkable_height walkable_climb f) result heads.new
-        (slots free.new floors.new ceilings.new areas.new nexts.new) }
-{
-    let ending = triangles(
-        heads,
-        free,
-        floors,
-        ceilings,
-        areas,
-        nexts,
-        frame,
-        vertices,
-        indices,
-        triangle_areas,
-        walkable_climb,
-    );
-    if let Ending::Halted(why, t, made) = ending {
-        return Ending::Halted(why, t, made);
-    }
-    filter_all(
-        heads,
-        floors,
-        ceilings,
-        areas,
-        nexts,
-        frame.width,
-        frame.height,
-        walkable_height,
-        walkable_climb,
-    );
-    Ending::Placed
-}
-
-// The same for a mesh that has passed its tests, on all that is lent.
-fn populate(
-    heads: &mut [u32],
-    free: &mut u32,
-    floors: &mut [u16],
-    ceilings: &mut [u16],
-    areas: &mut [u8],
-    nexts: &mut [u32],
-    grid: Grid,
-    width: u32,
-    height: u32,
-    vertices: &[f32],
-    indices: &[u32],
-    triangle_areas: &[u8],
-    walkable_height: u16,
-    walkable_climb: u16,
-) -> Reply
-    requires sides { Sides width height × (width * height ≤ length heads.old) × Shaped (mesh vertices.now indices.now triangle_areas.now) × Named (mesh vertices.now indices.now triangle_areas.now) }
-    requires held { Held (take (width * height) heads.old) (slots free.old floors.old ceilings.old areas.old nexts.old) }
-    ensures { (marks : List ℕ)
-        → Builds (width * height) (populated (frame_of grid width height) (mesh vertices.now indices.now triangle_areas.now) walkable_height walkable_climb)
-        (store heads.old (slots free.old floors.old ceilings.old areas.old nexts.old) marks)
-        (left (said_of result) (store heads.new (slots free.new floors.new ceilings.new areas.new nexts.new) (replicate (length nexts.old) 0))) }
-{
-    let n = columns_of(width, height);
-    let frame = frame_of(grid, width, height);
-    let ending = build(
-        &mut heads[..n],
-        free,
-        floors,
-        ceilings,
-        areas,
-        nexts,
-        frame,
-        vertices,
-        indices,
-        triangle_areas,
-        walkable_height,
-        walkable_climb,
-    );
-    reply_of(ending)
+    raise_columns(columns, areas, agent.climb);
+    clear_columns(columns, areas, size, agent);
+    lower_columns(columns, areas, agent.height);
 }
 
 // Puts a mesh into the field, with the climb as merge threshold, and runs the three filters once all of it is placed. A mesh that stops is not filtered.
@@ -312,41 +176,43 @@ pub fn populate_from_trimesh(
     triangle_areas: &[u8],
     walkable_height: u16,
     walkable_climb: u16,
-) -> Reply
+) -> Result<(), Refusal>
     ensures { Populated grid (mesh vertices.now indices.now triangle_areas.now) walkable_height walkable_climb
         (store heads.old (slots free.old floors.old ceilings.old areas.old nexts.old) marks.old)
         (left (said_of result) (store heads.new (slots free.new floors.new ceilings.new areas.new nexts.new) marks.new)) }
 {
-    let admission = admit_mesh(
-        grid,
+    let mesh = Mesh {
+        vertices,
+        indices,
+        areas: triangle_areas,
+    };
+    let columns = Columns {
         heads,
-        *free,
+        free: *free,
+        floors,
+        ceilings,
+        nexts,
+    };
+    let size = admit_mesh(grid, &columns, areas, marks, &mesh)?;
+    let mut slots = Slots {
+        free,
         floors,
         ceilings,
         areas,
         nexts,
-        marks,
-        vertices,
-        indices,
-        triangle_areas,
-    );
-    match admission {
-        Admission::Refused(r) => r,
-        Admission::Granted(width, height) => populate(
-            heads,
-            free,
-            floors,
-            ceilings,
-            areas,
-            nexts,
-            grid,
-            width,
-            height,
-            vertices,
-            indices,
-            triangle_areas,
-            walkable_height,
-            walkable_climb,
-        ),
-    }
+    };
+    take_mesh(grid, size, heads, &mut slots, &mesh, walkable_climb)?;
+    let columns = Columns {
+        heads: &heads[..size.columns()],
+        free: *free,
+        floors,
+        ceilings,
+        nexts,
+    };
+    let agent = Agent {
+        height: walkable_height,
+        climb: walkable_climb,
+    };
+    filter_all(&columns, areas, size, agent);
+    Ok(())
 }

@@ -3,36 +3,38 @@ ghost use Rattle.std.specs.Prelude.{◌≡◌, ◌+◌, ◌*◌, ◌≤◌, ◌<
 ghost use Rattle.field.specs.Inner.{Says};
 ghost use Rattle.field.specs.FilterCode.{Rim};
 
+use grid::Size;
+
 // A place on the grid.
 #[derive(Clone, Copy)]
 pub(crate) struct Cell {
-    pub x: usize,
-    pub z: usize,
+    pub x: u32,
+    pub z: u32,
 }
 
-pub(crate) fn on_rim(width: usize, depth: usize, c: Cell) -> bool
-    requires { (c.x < width) × (c.z < depth) × (width * depth ≤ 1048576) }
-    ensures { Says result (Rim width depth c.x c.z) }
+pub(crate) fn on_rim(size: Size, c: Cell) -> bool
+    requires { (c.x < size.width) × (c.z < size.height) }
+    ensures { Says result (Rim size.width size.height c.x c.z) }
 {
-    if c.x == 0 {
-        return true;
-    }
-    if depth <= c.z + 1 {
-        return true;
-    }
-    if width <= c.x + 1 {
-        return true;
-    }
-    c.z == 0
+    c.x == 0 || size.height <= c.z + 1 || size.width <= c.x + 1 || c.z == 0
+}
+
+// The number of the column at a place.
+pub(crate) fn column_at(size: Size, c: Cell) -> usize
+    requires { (c.x < size.width) × (c.z < size.height) }
+    ensures { (result ≡ c.x + c.z * size.width) × (result < size.width * size.height) }
+{
+    c.x as usize + c.z as usize * size.width as usize
 }
 
 // The place that follows, row by row.
-pub(crate) fn next_cell(width: usize, c: Cell) -> Cell
-    requires { (c.x < width) × (width ≤ 1048576) × (c.z < 1048576) }
-    ensures { (result.x < width) × (result.x + result.z * width ≡ c.x + c.z * width + 1) }
+pub(crate) fn next_cell(size: Size, c: Cell) -> Cell
+    requires { (c.x < size.width) × (size.width ≤ 1048576) × (c.z < 1048576) }
+    ensures { (result.x < size.width) × (result.x + result.z * size.width ≡ c.x + c.z * size.width + 1) }
 {
-    if c.x + 1 == width {
-        return Cell { x: 0, z: c.z + 1 };
+    if c.x + 1 == size.width {
+        Cell { x: 0, z: c.z + 1 }
+    } else {
+        Cell { x: c.x + 1, z: c.z }
     }
-    Cell { x: c.x + 1, z: c.z }
 }

@@ -1,6 +1,5 @@
 // Triangles to spans: a triangle is cut into rows, a row into columns, and a cell's part becomes a span of the store.
 ghost use Rattle.std.specs.Prelude.{◌≡◌, List, [], ◌∷◌, ◌++◌, ℕ, ◌*◌, ◌/◌, ◌<◌, ◌≤◌, length, get_or, take, replicate};
-ghost use Rattle.replies.specs.Said.{whole, say};
 ghost use Rattle.clip.specs.Arrays.{numbers_at};
 ghost use Rattle.clip.specs.Work.{frame_of, triangle_events};
 ghost use Rattle.field.specs.Slots.{slots};
@@ -8,16 +7,16 @@ ghost use Rattle.field.specs.Field.{Field, Holds, Held};
 ghost use Rattle.field.specs.Store.{store, left};
 ghost use Rattle.field.specs.Meshes.{mesh, single, corner_at, work_of, rasterized, Shaped, Named, Builds, Rasterized};
 ghost use Rattle.rerecast.specs.Answer.{said_of};
-ghost use Rattle.rerecast.specs.Rasterize.{number_of, ending_says, Carries, Worked, MeshWorked, Sides, Ready};
+ghost use Rattle.rerecast.specs.Lent.{slots_of, mesh_of, SameSlots};
+ghost use Rattle.rerecast.specs.Rasterize.{Carries, Worked, MeshWorked, Sides, Ready};
 
-use crate::Reply;
-use crate::admission::{Admission, columns_of};
+use crate::Refusal;
+use crate::lent::{Columns, Mesh, Slots};
 use crate::mesh_admission::admit_mesh;
 use crate::rows::rows;
-use crate::slices::index;
-use crate::turns::{Job, Step, Stop, first_of};
+use crate::turns::{Halt, Job, first_of};
 use clip::frame::{Frame, frame_of};
-use grid::{Corner, Grid};
+use grid::{Corner, Grid, Size};
 
 // An array that begins with three numbers.
 fn three(a: f32, b: f32, c: f32) -> [f32; 28]
@@ -32,196 +31,115 @@ fn three(a: f32, b: f32, c: f32) -> [f32; 28]
 
 fn triangle(
     heads: &mut [u32],
-    free: &mut u32,
-    floors: &mut [u16],
-    ceilings: &mut [u16],
-    areas: &mut [u8],
-    nexts: &mut [u32],
+    slots: &mut Slots<'_>,
     job: Job,
     a: Corner,
     b: Corner,
     c: Corner,
-) -> Step
+) -> Result<u32, Halt>
     requires ready { Ready job.frame heads.old }
-    requires by_index { (others : List ℕ) × Held (heads.old ++ others) (slots free.old floors.old ceilings.old areas.old nexts.old) }
-    ensures { (others : List ℕ) (f : Field) → Holds (heads.old ++ others) (slots free.old floors.old ceilings.old areas.old nexts.old) f
-        → Carries job 0 f (triangle_events job.frame (a ∷ b ∷ c ∷ [])) result (heads.new ++ others)
-        (slots free.new floors.new ceilings.new areas.new nexts.new) }
+    requires held { (others : List ℕ) × Held (heads.old ++ others) (slots_of slots.old) }
+    ensures carries { (others : List ℕ) (f : Field) → Holds (heads.old ++ others) (slots_of slots.old) f
+        → Carries job 0 f (triangle_events job.frame (a ∷ b ∷ c ∷ [])) result (heads.new ++ others) (slots_of slots.new) }
+    ensures same_slots { SameSlots slots.old slots.new }
 {
     let f = job.frame;
     let xs = three(a.x, b.x, c.x);
     let ys = three(a.y, b.y, c.y);
     let zs = three(a.z, b.z, c.z);
     if !clip::frame::meets(f, &xs, &ys, &zs, 3) {
-        return Step::Went(0);
+        return Ok(0);
     }
     let z0 = clip::slices::cell_at(f.grid.min.z, f.inverse, clip::slices::least_of(&zs, 3));
     let z1 = clip::slices::cell_at(f.grid.min.z, f.inverse, clip::slices::greatest_of(&zs, 3));
     let first = first_of(z0, f.height - 1);
     let last = clip::slices::held_last(z1, f.height - 1) + 1;
-    rows(
-        heads, free, floors, ceilings, areas, nexts, job, &xs, &ys, &zs, first, last,
-    )
+    rows(heads, slots, job, &xs, &ys, &zs, first, last)
 }
 
 // The corner that stands at a place of the indices.
-fn corner(vertices: &[f32], indices: &[u32], at: usize) -> Corner
-    requires { (at < length indices.now) × (get_or indices.now at 0 < length vertices.now / 3) }
-    ensures { result ≡ corner_at (mesh vertices.now indices.now []) at }
+fn corner(mesh: &Mesh<'_>, at: usize) -> Corner
+    requires { (at < length mesh.now.indices.now) × (get_or mesh.now.indices.now at 0 < length mesh.now.vertices.now / 3) }
+    ensures { result ≡ corner_at (mesh_of mesh.now) at }
 {
-    let i = index(indices[at]) * 3;
+    let i = mesh.indices[at] as usize * 3;
     Corner {
-        x: vertices[i],
-        y: vertices[i + 1],
-        z: vertices[i + 2],
+        x: mesh.vertices[i],
+        y: mesh.vertices[i + 1],
+        z: mesh.vertices[i + 2],
     }
 }
 
 // Triangle t of a mesh.
 fn triangle_at(
     heads: &mut [u32],
-    free: &mut u32,
-    floors: &mut [u16],
-    ceilings: &mut [u16],
-    areas: &mut [u8],
-    nexts: &mut [u32],
+    slots: &mut Slots<'_>,
     frame: Frame,
-    vertices: &[f32],
-    indices: &[u32],
-    triangle_areas: &[u8],
+    mesh: &Mesh<'_>,
     threshold: u16,
     t: usize,
-) -> Step
-    requires ready { Ready frame heads.old × Shaped (mesh vertices.now indices.now triangle_areas.now) × Named (mesh vertices.now indices.now triangle_areas.now) × (t < length triangle_areas.now) }
-    requires by_index { (others : List ℕ) × Held (heads.old ++ others) (slots free.old floors.old ceilings.old areas.old nexts.old) }
-    ensures { (others : List ℕ) (f : Field) → Holds (heads.old ++ others) (slots free.old floors.old ceilings.old areas.old nexts.old) f
-        → Worked frame threshold (work_of frame (mesh vertices.now indices.now triangle_areas.now) t) f result (heads.new ++ others)
-        (slots free.new floors.new ceilings.new areas.new nexts.new) }
+) -> Result<u32, Halt>
+    requires ready { Ready frame heads.old × Shaped (mesh_of mesh.now) × Named (mesh_of mesh.now) × (t < length mesh.now.areas.now) }
+    requires held { (others : List ℕ) × Held (heads.old ++ others) (slots_of slots.old) }
+    ensures worked { (others : List ℕ) (f : Field) → Holds (heads.old ++ others) (slots_of slots.old) f
+        → Worked frame threshold (work_of frame (mesh_of mesh.now) t) f result (heads.new ++ others) (slots_of slots.new) }
+    ensures same_slots { SameSlots slots.old slots.new }
 {
     let at = t * 3;
-    let a = corner(vertices, indices, at);
-    let b = corner(vertices, indices, at + 1);
-    let c = corner(vertices, indices, at + 2);
+    let a = corner(mesh, at);
+    let b = corner(mesh, at + 1);
+    let c = corner(mesh, at + 2);
     let job = Job {
         frame,
-        area: triangle_areas[t],
+        area: mesh.areas[t],
         threshold,
     };
-    triangle(heads, free, floors, ceilings, areas, nexts, job, a, b, c)
-}
-
-// How a mesh ended: all of it was placed, or it stopped at a triangle, with so many of that triangle's insertions made.
-#[derive(Clone, Copy)]
-pub(crate) enum Ending {
-    Placed,
-    Halted(Stop, u32, u32),
-}
-
-pub(crate) fn reply_of(ending: Ending) -> Reply
-    ensures { said_of result ≡ ending_says ending }
-{
-    match ending {
-        Ending::Placed => Reply::Accepted,
-        Ending::Halted(why, t, made) => halted(why, t, made),
-    }
-}
-
-// The reply of a mesh that stopped at triangle t.
-fn halted(why: Stop, t: u32, made: u32) -> Reply
-    ensures { said_of result ≡ say (number_of why) (whole t ∷ whole made ∷ []) }
-{
-    match why {
-        Stop::NoSlot => Reply::NoSlotAt(t, made),
-        Stop::EighthVertex => Reply::EighthVertex(t, made),
-        Stop::TooHigh => Reply::TooHigh(t, made),
-    }
+    triangle(heads, slots, job, a, b, c)
 }
 
 // The triangles of a mesh, one after another, up to the first that stops.
-pub(crate) fn triangles(
+fn triangles(
     heads: &mut [u32],
-    free: &mut u32,
-    floors: &mut [u16],
-    ceilings: &mut [u16],
-    areas: &mut [u8],
-    nexts: &mut [u32],
+    slots: &mut Slots<'_>,
     frame: Frame,
-    vertices: &[f32],
-    indices: &[u32],
-    triangle_areas: &[u8],
+    mesh: &Mesh<'_>,
     threshold: u16,
-) -> Ending
-    requires ready { Ready frame heads.old × Shaped (mesh vertices.now indices.now triangle_areas.now) × Named (mesh vertices.now indices.now triangle_areas.now) }
-    requires by_index { (others : List ℕ) × Held (heads.old ++ others) (slots free.old floors.old ceilings.old areas.old nexts.old) }
-    ensures { (others : List ℕ) (f : Field) → Holds (heads.old ++ others) (slots free.old floors.old ceilings.old areas.old nexts.old) f
-        → MeshWorked (rasterized frame (mesh vertices.now indices.now triangle_areas.now) threshold f) result (heads.new ++ others)
-        (slots free.new floors.new ceilings.new areas.new nexts.new) }
+) -> Result<(), Refusal>
+    requires ready { Ready frame heads.old × Shaped (mesh_of mesh.now) × Named (mesh_of mesh.now) }
+    requires held { (others : List ℕ) × Held (heads.old ++ others) (slots_of slots.old) }
+    ensures worked { (others : List ℕ) (f : Field) → Holds (heads.old ++ others) (slots_of slots.old) f
+        → MeshWorked (rasterized frame (mesh_of mesh.now) threshold f) result (heads.new ++ others) (slots_of slots.new) }
+    ensures same_slots { SameSlots slots.old slots.new }
 {
-    let mut t: usize = 0;
-    while t < triangle_areas.len() {
-        let step = triangle_at(
-            heads,
-            free,
-            floors,
-            ceilings,
-            areas,
-            nexts,
-            frame,
-            vertices,
-            indices,
-            triangle_areas,
-            threshold,
-            t,
-        );
-        if let Step::Stopped(why, made) = step {
-            return Ending::Halted(why, t as u32, made);
+    for t in 0..mesh.areas.len() {
+        if let Err(halt) = triangle_at(heads, slots, frame, mesh, threshold, t) {
+            return Err(Refusal::Stopped(halt.why, t as u32, halt.made));
         }
-        t += 1;
     }
-    Ending::Placed
+    Ok(())
 }
 
 // ---- the calls
 
 // A mesh that has passed its tests, on a field that is known to be sound.
-fn take_mesh(
-    heads: &mut [u32],
-    free: &mut u32,
-    floors: &mut [u16],
-    ceilings: &mut [u16],
-    areas: &mut [u8],
-    nexts: &mut [u32],
+pub(crate) fn take_mesh(
     grid: Grid,
-    width: u32,
-    height: u32,
-    vertices: &[f32],
-    indices: &[u32],
-    triangle_areas: &[u8],
+    size: Size,
+    heads: &mut [u32],
+    slots: &mut Slots<'_>,
+    mesh: &Mesh<'_>,
     threshold: u16,
-) -> Reply
-    requires sides { Sides width height × (width * height ≤ length heads.old) × Shaped (mesh vertices.now indices.now triangle_areas.now) × Named (mesh vertices.now indices.now triangle_areas.now) }
-    requires held { Held (take (width * height) heads.old) (slots free.old floors.old ceilings.old areas.old nexts.old) }
-    ensures { (marks : List ℕ)
-        → Builds (width * height) (rasterized (frame_of grid width height) (mesh vertices.now indices.now triangle_areas.now) threshold)
-        (store heads.old (slots free.old floors.old ceilings.old areas.old nexts.old) marks)
-        (left (said_of result) (store heads.new (slots free.new floors.new ceilings.new areas.new nexts.new) (replicate (length nexts.old) 0))) }
+) -> Result<(), Refusal>
+    requires sides { Sides size.width size.height × (size.width * size.height ≤ length heads.old) × Shaped (mesh_of mesh.now) × Named (mesh_of mesh.now) }
+    requires held { Held (take (size.width * size.height) heads.old) (slots_of slots.old) }
+    ensures builds { (marks : List ℕ)
+        → Builds (size.width * size.height) (rasterized (frame_of grid size.width size.height) (mesh_of mesh.now) threshold)
+        (store heads.old (slots_of slots.old) marks)
+        (left (said_of result) (store heads.new (slots_of slots.new) (replicate (length slots.old.nexts.now) 0))) }
+    ensures same_slots { SameSlots slots.old slots.new }
 {
-    let n = columns_of(width, height);
-    let frame = frame_of(grid, width, height);
-    let ending = triangles(
-        &mut heads[..n],
-        free,
-        floors,
-        ceilings,
-        areas,
-        nexts,
-        frame,
-        vertices,
-        indices,
-        triangle_areas,
-        threshold,
-    );
-    reply_of(ending)
+    let frame = frame_of(grid, size.width, size.height);
+    triangles(&mut heads[..size.columns()], slots, frame, mesh, threshold)
 }
 
 // Puts the triangles of a mesh into the field, each with its area, up to the first that stops.
@@ -238,42 +156,32 @@ pub fn rasterize_triangles(
     indices: &[u32],
     triangle_areas: &[u8],
     threshold: u16,
-) -> Reply
+) -> Result<(), Refusal>
     ensures { Rasterized grid (mesh vertices.now indices.now triangle_areas.now) threshold
         (store heads.old (slots free.old floors.old ceilings.old areas.old nexts.old) marks.old)
         (left (said_of result) (store heads.new (slots free.new floors.new ceilings.new areas.new nexts.new) marks.new)) }
 {
-    let admission = admit_mesh(
-        grid,
+    let mesh = Mesh {
+        vertices,
+        indices,
+        areas: triangle_areas,
+    };
+    let columns = Columns {
         heads,
-        *free,
+        free: *free,
+        floors,
+        ceilings,
+        nexts,
+    };
+    let size = admit_mesh(grid, &columns, areas, marks, &mesh)?;
+    let mut slots = Slots {
+        free,
         floors,
         ceilings,
         areas,
         nexts,
-        marks,
-        vertices,
-        indices,
-        triangle_areas,
-    );
-    match admission {
-        Admission::Refused(r) => r,
-        Admission::Granted(width, height) => take_mesh(
-            heads,
-            free,
-            floors,
-            ceilings,
-            areas,
-            nexts,
-            grid,
-            width,
-            height,
-            vertices,
-            indices,
-            triangle_areas,
-            threshold,
-        ),
-    }
+    };
+    take_mesh(grid, size, heads, &mut slots, &mesh, threshold)
 }
 
 // Puts one triangle into the field: a mesh of one.
@@ -291,13 +199,11 @@ pub fn rasterize_triangle(
     c: Corner,
     area: u8,
     threshold: u16,
-) -> Reply
+) -> Result<(), Refusal>
     ensures { Rasterized grid (single a b c area) threshold (store heads.old (slots free.old floors.old ceilings.old areas.old nexts.old) marks.old)
         (left (said_of result) (store heads.new (slots free.new floors.new ceilings.new areas.new nexts.new) marks.new)) }
 {
     let vertices = [a.x, a.y, a.z, b.x, b.y, b.z, c.x, c.y, c.z];
-    let indices = [0u32, 1, 2];
-    let triangle_areas = [area];
     rasterize_triangles(
         grid,
         heads,
@@ -308,8 +214,8 @@ pub fn rasterize_triangle(
         nexts,
         marks,
         &vertices,
-        &indices,
-        &triangle_areas,
+        &[0, 1, 2],
+        &[area],
         threshold,
     )
 }

@@ -1,11 +1,12 @@
 // The cells beside a column: where each has its open spaces in the compact result.
-ghost use Rattle.std.specs.Prelude.{◌≡◌, cond, map, ◌+◌, ◌*◌, ◌≤◌, ◌<◌, length, get_or, eqb};
+ghost use Rattle.std.specs.Prelude.{◌≡◌, map, ◌+◌, ◌*◌, ◌≤◌, ◌<◌, length, IfSome};
 ghost use Rattle.field.specs.Slots.{none};
-ghost use Rattle.field.specs.Beside.{beside_at, beside};
-ghost use Rattle.rerecast.specs.Compacting.{side_of, sides_of};
+ghost use Rattle.field.specs.Beside.{beside};
+ghost use Rattle.grid.specs.Directions.{number_of};
+ghost use Rattle.rerecast.specs.Compacting.{side_of, place_of, Beside};
 
-use crate::slices::index;
-use field::NONE;
+use crate::lent::Compact;
+use grid::{Direction, Size};
 
 // A cell beside: the place of its first open space, and how many it has.
 #[derive(Clone, Copy)]
@@ -14,87 +15,41 @@ pub(crate) struct Side {
     pub count: u8,
 }
 
+// The number of the column beside x, z in a direction, if there is one.
+fn beside_at(size: Size, x: u32, z: u32, direction: Direction) -> Option<usize>
+    requires { (x < size.width) × (z < size.height) }
+    ensures { Beside result size.width size.height x z (number_of direction) }
+{
+    let (x, z) = size.beside(x, z, direction)?;
+    size.column(x, z)
+}
+
+// The cell with number `k`, and an empty one where there is none.
+fn side_at(compact: &Compact<'_>, k: Option<usize>) -> Side
+    requires { IfSome k (λ i. (i < none) × (i < length compact.now.indices.now) × (i < length compact.now.counts.now)) }
+    ensures { result ≡ side_of compact.now.indices.now compact.now.counts.now (place_of k) }
+{
+    match k {
+        Some(k) => Side {
+            first: compact.indices[k] as usize,
+            count: compact.counts[k],
+        },
+        None => Side { first: 0, count: 0 },
+    }
+}
+
 // The cells beside a column, by direction.
-#[derive(Clone, Copy)]
-pub(crate) struct Around {
-    pub side0: Side,
-    pub side1: Side,
-    pub side2: Side,
-    pub side3: Side,
-}
-
-// A column's number.
-fn column_at(width: usize, depth: usize, x: usize, z: usize) -> usize
-    requires { (x < width) × (z < depth) × (width * depth ≤ 1048576) }
-    ensures { (result ≡ x + z * width) × (result < width * depth) }
+pub(crate) fn around_column(compact: &Compact<'_>, size: Size, column: usize) -> [Side; 4]
+    requires { (column < size.width * size.height) × (size.width * size.height ≤ length compact.now.indices.now) × (size.width * size.height ≤ length compact.now.counts.now) }
+    ensures { result ≡ map (side_of compact.now.indices.now compact.now.counts.now) (beside size.width size.height column) }
 {
-    x + z * width
-}
-
-// The number of the column beside x, z in a direction, or none off the grid.
-fn beside_at(width: usize, depth: usize, x: usize, z: usize, dir: u8) -> usize
-    requires { (x < width) × (z < depth) × (width * depth ≤ 1048576) × (dir < 4) }
-    ensures { (result ≡ get_or (beside_at width depth x z) dir 0) × ((result ≡ none → ⊥) → result < width * depth) }
-{
-    if dir == 0 {
-        if 0 < x {
-            return column_at(width, depth, x - 1, z);
-        }
-        return NONE as usize;
-    }
-    if dir == 1 {
-        if z + 1 < depth {
-            return column_at(width, depth, x, z + 1);
-        }
-        return NONE as usize;
-    }
-    if dir == 2 {
-        if x + 1 < width {
-            return column_at(width, depth, x + 1, z);
-        }
-        return NONE as usize;
-    }
-    if 0 < z {
-        return column_at(width, depth, x, z - 1);
-    }
-    NONE as usize
-}
-
-// The cell with number `k`, and an empty one where that is none.
-fn side_at(cell_indices: &[u32], cell_counts: &[u8], k: usize) -> Side
-    requires { (k ≡ none → ⊥) → (k < length cell_indices.now) × (k < length cell_counts.now) }
-    ensures { (result.first ≡ cond (eqb k none) 0 (get_or cell_indices.now k 0)) × (result.count ≡ cond (eqb k none) 0 (get_or cell_counts.now k 0)) }
-{
-    if k == NONE as usize {
-        return Side { first: 0, count: 0 };
-    }
-    Side {
-        first: index(cell_indices[k]),
-        count: cell_counts[k],
-    }
-}
-
-// The cells beside a column.
-pub(crate) fn around_column(
-    cell_indices: &[u32],
-    cell_counts: &[u8],
-    width: usize,
-    depth: usize,
-    column: usize,
-) -> Around
-    requires { (column < width * depth) × (width * depth ≤ 1048576) × (width * depth ≤ length cell_indices.now) × (width * depth ≤ length cell_counts.now) }
-    ensures { sides_of result ≡ map (side_of cell_indices.now cell_counts.now) (beside width depth column) }
-{
-    let x = column % width;
-    let z = column / width;
-    let side0 = side_at(cell_indices, cell_counts, beside_at(width, depth, x, z, 0));
-    let side1 = side_at(cell_indices, cell_counts, beside_at(width, depth, x, z, 1));
-    let side2 = side_at(cell_indices, cell_counts, beside_at(width, depth, x, z, 2));
-    let side3 = side_at(cell_indices, cell_counts, beside_at(width, depth, x, z, 3));
-    Around {
-        side0,
-        side1,
-        side2,
-        side3,
-    }
+    let number = column as u32;
+    let x = number % size.width;
+    let z = number / size.width;
+    [
+        side_at(compact, beside_at(size, x, z, Direction::West)),
+        side_at(compact, beside_at(size, x, z, Direction::North)),
+        side_at(compact, beside_at(size, x, z, Direction::East)),
+        side_at(compact, beside_at(size, x, z, Direction::South)),
+    ]
 }

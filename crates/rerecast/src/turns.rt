@@ -5,22 +5,15 @@ ghost use Rattle.clip.specs.Slices.{held_first};
 ghost use Rattle.field.specs.Working.{numbered};
 ghost use Rattle.rerecast.specs.Rasterize.{Judged};
 
+use crate::Stop;
 use clip::cut::Counts;
 use clip::frame::Frame;
 
-// Why the work of a triangle stopped.
+// A triangle's work stopped: why, and how many of its insertions were made before.
 #[derive(Clone, Copy)]
-pub(crate) enum Stop {
-    NoSlot,
-    EighthVertex,
-    TooHigh,
-}
-
-// How far the work of a triangle went, and how many of its insertions were made.
-#[derive(Clone, Copy)]
-pub(crate) enum Step {
-    Went(u32),
-    Stopped(Stop, u32),
+pub(crate) struct Halt {
+    pub why: Stop,
+    pub made: u32,
 }
 
 // What stays the same over a triangle's work.
@@ -82,8 +75,5 @@ pub(crate) fn misses(first: i32, last: i32, cells: u32) -> bool
     requires { cells ≤ 4096 }
     ensures { result ≡ lt_z last (pos 0) || le_z (pos cells) first }
 {
-    if last < 0 {
-        return true;
-    }
-    first >= cells as i32
+    last < 0 || first >= cells as i32
 }

@@ -1,15 +1,16 @@
 // What the program knows from line to line, and how it obeys a command.
-use crate::commands::{Call, Command, Name, View};
+use crate::answers::Answer;
+use crate::commands::{Call, Command, Name, Needs, View};
 use crate::compact::{Compact, Made};
+use crate::input::Line;
 use crate::mesh::Mesh;
 use crate::store::{FIRST_LENT, Store};
 use crate::words::Words;
-use crate::{Out, answers, calls, map, shows};
+use crate::writer::Out;
+use crate::{answers, calls, map, parse, shows};
 use grid::{Corner, Grid};
-use rerecast::Reply;
+use rerecast::Refusal;
 use std::alloc::{AllocError, Global};
-use std::io;
-use std::io::Write;
 
 #[derive(Drop)]
 pub struct Bench {
@@ -31,11 +32,14 @@ pub struct Plan {
 
 impl From<Grid> for Plan {
     fn from(grid: Grid) -> Plan {
-        let (width, height) = calls::size_of(grid);
+        let (width, columns) = match grid::check(grid) {
+            Ok(size) => (size.width, size.width as usize * size.height as usize),
+            Err(_) => (0, 0),
+        };
         Plan {
             grid,
             width,
-            columns: (width as usize).saturating_mul(height as usize),
+            columns,
         }
     }
 }
@@ -76,12 +80,23 @@ impl Bench {
         self.compact.lend(FIRST_LENT)
     }
 
+    // Reads a line, and obeys.
+    pub fn read(&mut self, line: Line<'_>, out: &mut Out) -> Result<(), AllocError> {
+        let number = line.number;
+        match line.text.and_then(parse::command) {
+            Ok(Some(command)) => self.obey(command, number, out)?,
+            Ok(None) => {}
+            Err(unread) => writeln!(out, "line {number}: cannot be read, expected {unread}"),
+        }
+        Ok(())
+    }
+
     // Obeys the command of the line of this number.
-    pub fn obey(&mut self, command: Command<'_>, line: u64, out: &mut Out) -> io::Result<()> {
+    fn obey(&mut self, command: Command<'_>, line: u64, out: &mut Out) -> Result<(), AllocError> {
         match command {
             Command::Case(words) => {
                 self.terse = true;
-                say_case(out, words)?;
+                say_case(out, words);
                 self.forget()?;
             }
             Command::Grid(grid) => self.plan = Plan::from(grid),
@@ -89,65 +104,68 @@ impl Bench {
             Command::Spans(spans) => self.compact.lend(spans)?,
             Command::Vertex(vertex) => {
                 if !self.mesh.add_vertex(vertex)? {
-                    say_no_room(out, line)?;
+                    say_no_room(out, line);
                 }
             }
             Command::Area(area) => self.mesh.area = area,
             Command::Face(face) => {
                 if !self.mesh.add_face(face)? {
-                    say_no_room(out, line)?;
+                    say_no_room(out, line);
                 }
             }
             Command::NoMesh => self.mesh.clear(),
+            Command::Call(call) => {
+                let (name, answer) = self.call(call);
+                answers::say(out, self.terse, name, answer);
+            }
+            Command::Show(view) => self.show(view, out),
             Command::Poke(damage) => {
                 if !self.store.put(damage, self.plan.columns) {
-                    writeln!(out, "line {line}: nothing is lent there")?;
+                    writeln!(out, "line {line}: nothing is lent there");
                 }
             }
-            Command::Show(view) => self.show(view, out)?,
-            Command::Call(call) => {
-                let (name, reply) = self.call(call);
-                answers::say(out, self.terse, name, reply)?;
-            }
-            Command::Help => say_help(out)?,
+            Command::Help => say_help(out),
             Command::Terse => self.terse = true,
         }
         Ok(())
     }
 
-    fn call(&mut self, call: Call) -> (Name, Reply) {
+    fn call(&mut self, call: Call) -> (Name, Answer) {
         let grid = self.plan.grid;
         let store = &mut self.store;
-        match call {
+        let (name, done) = match call {
             Call::Fresh => {
                 self.compact.made = None;
                 (Name::Fresh, calls::fresh(grid, store))
             }
             Call::Add(offer) => (Name::Add, calls::add(grid, store, offer)),
             Call::Rasterize(threshold) => {
-                let reply = calls::rasterize(grid, store, &self.mesh, threshold);
-                (Name::Rasterize, reply)
+                let done = calls::rasterize(grid, store, &self.mesh, threshold);
+                (Name::Rasterize, done)
             }
             Call::Populate(needs) => {
-                let reply = calls::populate(grid, store, &self.mesh, needs);
-                (Name::Populate, reply)
+                let done = calls::populate(grid, store, &self.mesh, needs);
+                (Name::Populate, done)
             }
             Call::Low(climb) => (Name::Low, calls::low(grid, store, climb)),
             Call::Ledges(needs) => (Name::Ledges, calls::ledges(grid, store, needs)),
             Call::Ceilings(height) => (Name::Ceilings, calls::ceilings(grid, store, height)),
-            Call::Compact(needs) => {
-                let reply = calls::compact(grid, store, &mut self.compact, needs);
-                let made = Made {
-                    width: self.plan.width,
-                    columns: self.plan.columns,
-                };
-                self.compact.made = calls::has_result(reply).then_some(made);
-                (Name::Compact, reply)
-            }
-        }
+            Call::Compact(needs) => return (Name::Compact, self.pack(needs)),
+        };
+        (name, done.map(|()| None))
     }
 
-    fn show(&self, view: View, out: &mut Out) -> io::Result<()> {
+    fn pack(&mut self, needs: Needs) -> Answer {
+        let done = calls::compact(self.plan.grid, &mut self.store, &mut self.compact, needs);
+        let Plan { width, columns, .. } = self.plan;
+        self.compact.made = match done {
+            Ok(_) | Err(Refusal::Layers(_, _)) => Some(Made { width, columns }),
+            Err(_) => None,
+        };
+        done.map(Some)
+    }
+
+    fn show(&self, view: View, out: &mut Out) {
         let width = self.plan.width;
         let heads = self.store.heads(self.plan.columns);
         let slots = self.store.slots();
@@ -161,29 +179,28 @@ impl Bench {
 }
 
 // A case's line, one space between its words.
-fn say_case(out: &mut Out, words: Words<'_>) -> io::Result<()> {
-    write!(out, "{}", Name::Case.word())?;
+fn say_case(out: &mut Out, words: Words<'_>) {
+    write!(out, "{}", Name::Case.word());
     for word in words {
-        write!(out, " ")?;
-        out.write_all(word)?;
+        write!(out, " ");
+        out.write_bytes(word);
     }
-    writeln!(out)
+    writeln!(out);
 }
 
-fn say_no_room(out: &mut Out, line: u64) -> io::Result<()> {
+fn say_no_room(out: &mut Out, line: u64) {
     writeln!(
         out,
         "line {line}: no room for more than 2000 vertices and 1000 faces"
-    )
+    );
 }
 
-fn say_help(out: &mut Out) -> io::Result<()> {
+fn say_help(out: &mut Out) {
     writeln!(
         out,
         "A command a line; # starts a comment. Whole numbers are decimal or 0x; floats are 0x and eight digits of bits, or decimal."
-    )?;
+    );
     for name in Name::ALL {
-        writeln!(out, "  {name}")?;
+        writeln!(out, "  {name}");
     }
-    Ok(())
 }

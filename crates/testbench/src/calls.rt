@@ -3,18 +3,10 @@ use crate::commands::{Needs, Offer};
 use crate::compact::Compact;
 use crate::mesh::Mesh;
 use crate::store::{Store, front, front_mut};
-use grid::{Grid, GridReply};
-use rerecast::{Reply, compact_heightfield, heightfield, pre_filter};
+use grid::Grid;
+use rerecast::{Refusal, compact_heightfield, heightfield, pre_filter};
 
-// A grid's cells in a row and its rows, or 0 by 0 where it is refused.
-pub fn size_of(grid: Grid) -> (u32, u32) {
-    match grid::check(grid) {
-        GridReply::Fine(width, height) => (width, height),
-        _ => (0, 0),
-    }
-}
-
-pub fn fresh(grid: Grid, store: &mut Store) -> Reply {
+pub fn fresh(grid: Grid, store: &mut Store) -> Result<(), Refusal> {
     let lent = store.lent;
     heightfield::fresh(
         grid,
@@ -27,7 +19,7 @@ pub fn fresh(grid: Grid, store: &mut Store) -> Reply {
     )
 }
 
-pub fn add(grid: Grid, store: &mut Store, offer: Offer) -> Reply {
+pub fn add(grid: Grid, store: &mut Store, offer: Offer) -> Result<(), Refusal> {
     let lent = store.lent;
     heightfield::add_span(
         grid,
@@ -45,7 +37,12 @@ pub fn add(grid: Grid, store: &mut Store, offer: Offer) -> Reply {
     )
 }
 
-pub fn rasterize(grid: Grid, store: &mut Store, mesh: &Mesh, threshold: u16) -> Reply {
+pub fn rasterize(
+    grid: Grid,
+    store: &mut Store,
+    mesh: &Mesh,
+    threshold: u16,
+) -> Result<(), Refusal> {
     let lent = store.lent;
     rerecast::rasterize::rasterize_triangles(
         grid,
@@ -63,7 +60,7 @@ pub fn rasterize(grid: Grid, store: &mut Store, mesh: &Mesh, threshold: u16) -> 
     )
 }
 
-pub fn populate(grid: Grid, store: &mut Store, mesh: &Mesh, needs: Needs) -> Reply {
+pub fn populate(grid: Grid, store: &mut Store, mesh: &Mesh, needs: Needs) -> Result<(), Refusal> {
     let lent = store.lent;
     heightfield::populate_from_trimesh(
         grid,
@@ -82,7 +79,7 @@ pub fn populate(grid: Grid, store: &mut Store, mesh: &Mesh, needs: Needs) -> Rep
     )
 }
 
-pub fn low(grid: Grid, store: &mut Store, climb: u16) -> Reply {
+pub fn low(grid: Grid, store: &mut Store, climb: u16) -> Result<(), Refusal> {
     let lent = store.lent;
     pre_filter::filter_low_hanging_walkable_obstacles(
         grid,
@@ -97,7 +94,7 @@ pub fn low(grid: Grid, store: &mut Store, climb: u16) -> Reply {
     )
 }
 
-pub fn ledges(grid: Grid, store: &mut Store, needs: Needs) -> Reply {
+pub fn ledges(grid: Grid, store: &mut Store, needs: Needs) -> Result<(), Refusal> {
     let lent = store.lent;
     pre_filter::filter_ledge_spans(
         grid,
@@ -113,7 +110,7 @@ pub fn ledges(grid: Grid, store: &mut Store, needs: Needs) -> Reply {
     )
 }
 
-pub fn ceilings(grid: Grid, store: &mut Store, height: u16) -> Reply {
+pub fn ceilings(grid: Grid, store: &mut Store, height: u16) -> Result<(), Refusal> {
     let lent = store.lent;
     pre_filter::filter_walkable_low_height_spans(
         grid,
@@ -128,12 +125,12 @@ pub fn ceilings(grid: Grid, store: &mut Store, height: u16) -> Reply {
     )
 }
 
-// Whether there is a compact result then.
-pub fn has_result(reply: Reply) -> bool {
-    matches!(reply, Reply::Compacted(_) | Reply::Layers(_, _))
-}
-
-pub fn compact(grid: Grid, store: &mut Store, compact: &mut Compact, needs: Needs) -> Reply {
+pub fn compact(
+    grid: Grid,
+    store: &mut Store,
+    compact: &mut Compact,
+    needs: Needs,
+) -> Result<f32, Refusal> {
     let lent = store.lent;
     let spans = compact.lent;
     compact_heightfield::into_compact(

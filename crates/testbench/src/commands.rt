@@ -140,16 +140,23 @@ pub enum View {
     Map,
 }
 
-// The entry that `poke` damages, and what it puts there.
+// An entry of a slice.
+#[derive(Clone, Copy)]
+pub struct Entry<T> {
+    pub index: usize,
+    pub value: T,
+}
+
+// What `poke` damages, and what it puts there. The head of the free chain has no index.
 #[derive(Clone, Copy)]
 pub enum Damage {
-    Head(usize, u32),
-    Free(u32),
-    Floor(usize, u16),
-    Ceiling(usize, u16),
-    Area(usize, u8),
-    Next(usize, u32),
-    Mark(usize, u8),
+    Head(Entry<u32>),
+    Free(Entry<u32>),
+    Floor(Entry<u16>),
+    Ceiling(Entry<u16>),
+    Area(Entry<u8>),
+    Next(Entry<u32>),
+    Mark(Entry<u8>),
 }
 
 // A call of the library.

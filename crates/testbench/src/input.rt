@@ -1,15 +1,17 @@
 // The input, line by line.
 use crate::commands::Unread;
+use crate::words::first;
+use crate::writer::Out;
 use std::alloc::Global;
 use std::io;
-use std::io::{BufRead, BufReader, Read, Write};
+use std::io::{BufRead, BufReader, Stdin};
 
 // No longer line is held.
 const LONGEST: usize = 65535;
 
 #[derive(Drop)]
-pub struct Input<R: Read> {
-    reader: BufReader<R>,
+pub struct Input {
+    reader: BufReader<Stdin>,
     // the line in hand, as far as it is held, and whether it is longer
     line: Vec<u8>,
     too_long: bool,
@@ -25,9 +27,9 @@ pub struct Line<'a> {
     pub text: Result<&'a [u8], Unread>,
 }
 
-impl<R: Read + Drop> Input<R> {
-    pub fn new(alloc: Global, reader: R) -> io::Result<Input<R>> {
-        let reader = BufReader::with_capacity(alloc, 65536, reader)?;
+impl Input {
+    pub fn new(alloc: Global, stdin: Stdin) -> io::Result<Input> {
+        let reader = BufReader::with_capacity(alloc, 65536, stdin)?;
         Ok(Input {
             reader,
             line: Vec::new(alloc),
@@ -38,7 +40,7 @@ impl<R: Read + Drop> Input<R> {
     }
 
     // The next line, if there is one. A last line needs no end.
-    pub fn next_line<W: Write>(&mut self, out: &mut W) -> io::Result<Option<Line<'_>>> {
+    pub fn next_line(&mut self, out: &mut Out) -> io::Result<Option<Line<'_>>> {
         self.line.clear();
         self.too_long = false;
         for _ in 0..u64::MAX {
@@ -63,21 +65,20 @@ impl<R: Read + Drop> Input<R> {
 
     // Takes what waits of a line, and answers whether that is all of it. Where nothing waits, the answers go out before more is read, since the read may wait
     // for whoever waits for them.
-    fn take_piece<W: Write>(&mut self, out: &mut W) -> io::Result<bool> {
+    fn take_piece(&mut self, out: &mut Out) -> io::Result<bool> {
         if self.reader.buffer().is_empty() {
             out.flush()?;
         }
         let waiting = self.reader.fill_buf()?;
         self.ended = waiting.is_empty();
-        let end = waiting.iter().position(|b| *b == b'\n');
-        let piece = &waiting[..end.unwrap_or(waiting.len())];
-        let used = piece.len() + usize::from(end.is_some());
-        if self.line.len() + piece.len() > LONGEST {
+        let end = first(waiting, |b| b == b'\n');
+        let is_whole = end < waiting.len();
+        if self.line.len() + end > LONGEST {
             self.too_long = true;
         } else {
-            self.line.extend_from_slice(piece)?;
+            self.line.extend_from_slice(&waiting[..end])?;
         }
-        self.reader.consume(used);
-        Ok(end.is_some())
+        self.reader.consume(end + usize::from(is_whole));
+        Ok(is_whole)
     }
 }

@@ -1,10 +1,8 @@
 // A map of the field from above, a character for each column.
 ghost use Rattle.std.specs.Prelude.{◌<◌};
 
-use crate::Out;
 use crate::store::Slots;
-use std::io;
-use std::io::Write;
+use crate::writer::Out;
 
 // What is seen of a column from above.
 #[derive(Clone, Copy)]
@@ -76,29 +74,33 @@ impl Range {
     }
 }
 
-// x from left to right, z downwards.
-pub fn map(out: &mut Out, width: u32, heads: &[u32], slots: Slots<'_>) -> io::Result<()> {
-    writeln!(out, "show map")?;
+pub fn map(out: &mut Out, width: u32, heads: &[u32], slots: Slots<'_>) {
+    writeln!(out, "show map");
     let range = Range::of(heads, slots);
-    for (column, head) in heads.iter().enumerate() {
-        let glyph = match (Seen::of(*head, slots), range) {
-            (Seen::Top(top), Some(range)) => range.glyph(top),
-            (Seen::NoSpan, _) => '.',
-            _ => '#',
-        };
-        write!(out, "{glyph}")?;
-        if (column + 1).is_multiple_of(width as usize) {
-            writeln!(out)?;
-        }
-    }
-    write!(out, ". no span, # no walkable span")?;
+    say_rows(out, width, heads, slots, range);
+    write!(out, ". no span, # no walkable span");
     if let Some(range) = range {
         let Range { low, high } = range;
         let step = range.step();
         write!(
             out,
             "; else the top of the highest walkable span, from 0 for {low} by {step} a character to {high}"
-        )?;
+        );
     }
-    writeln!(out)
+    writeln!(out);
+}
+
+// The rows, x from left to right, z downwards.
+fn say_rows(out: &mut Out, width: u32, heads: &[u32], slots: Slots<'_>, range: Option<Range>) {
+    for (column, head) in heads.iter().enumerate() {
+        let glyph = match (Seen::of(*head, slots), range) {
+            (Seen::Top(top), Some(range)) => range.glyph(top),
+            (Seen::NoSpan, _) => '.',
+            _ => '#',
+        };
+        write!(out, "{glyph}");
+        if (column + 1).is_multiple_of(width as usize) {
+            writeln!(out);
+        }
+    }
 }

@@ -1,5 +1,5 @@
 // Reads a line: a command, and the words that it takes.
-use crate::commands::{Call, Command, Damage, Name, Needs, Offer, Unread, View};
+use crate::commands::{Call, Command, Damage, Entry, Name, Needs, Offer, Unread, View};
 use crate::numbers::Number;
 use crate::words::Words;
 use field::Span;
@@ -117,18 +117,22 @@ fn view(word: &[u8]) -> Option<View> {
 }
 
 fn damage(words: &mut Words<'_>) -> Option<Damage> {
-    let slice = words.next()?;
+    match words.next()? {
+        b"heads" => entry(words).map(Damage::Head),
+        b"free" => entry(words).map(Damage::Free),
+        b"floors" => entry(words).map(Damage::Floor),
+        b"ceilings" => entry(words).map(Damage::Ceiling),
+        b"areas" => entry(words).map(Damage::Area),
+        b"nexts" => entry(words).map(Damage::Next),
+        b"marks" => entry(words).map(Damage::Mark),
+        _ => None,
+    }
+}
+
+fn entry<T: Number>(words: &mut Words<'_>) -> Option<Entry<T>> {
     let index: u32 = number(words)?;
-    let i = index as usize;
-    let damage = match slice {
-        b"heads" => Damage::Head(i, number(words)?),
-        b"free" => Damage::Free(number(words)?),
-        b"floors" => Damage::Floor(i, number(words)?),
-        b"ceilings" => Damage::Ceiling(i, number(words)?),
-        b"areas" => Damage::Area(i, number(words)?),
-        b"nexts" => Damage::Next(i, number(words)?),
-        b"marks" => Damage::Mark(i, number(words)?),
-        _ => return None,
-    };
-    Some(damage)
+    Some(Entry {
+        index: index as usize,
+        value: number(words)?,
+    })
 }

@@ -1,7 +1,7 @@
 // The store of spans that is lent to the calls.
 ghost use Rattle.std.specs.Iterator.{at_most};
 
-use crate::commands::Damage;
+use crate::commands::{Damage, Entry};
 use field::{NONE, Span};
 use std::alloc::{AllocError, Global};
 
@@ -81,20 +81,20 @@ impl Store {
         front(&self.heads, columns)
     }
 
-    // Puts a number where a slice of this name is lent, and answers whether there is such a place.
+    // Puts a number where it is said, and answers whether a slice has such a place.
     pub fn put(&mut self, damage: Damage, columns: usize) -> bool {
         let lent = self.lent;
         match damage {
-            Damage::Head(i, head) => put(&mut self.heads, columns, i, head),
+            Damage::Head(head) => put(front_mut(&mut self.heads, columns), head),
             Damage::Free(slot) => {
-                self.free = slot;
+                self.free = slot.value;
                 true
             }
-            Damage::Floor(i, floor) => put(&mut self.floors, lent, i, floor),
-            Damage::Ceiling(i, ceiling) => put(&mut self.ceilings, lent, i, ceiling),
-            Damage::Area(i, area) => put(&mut self.areas, lent, i, area),
-            Damage::Next(i, slot) => put(&mut self.nexts, lent, i, slot),
-            Damage::Mark(i, mark) => put(&mut self.marks, lent, i, mark),
+            Damage::Floor(floor) => put(front_mut(&mut self.floors, lent), floor),
+            Damage::Ceiling(ceiling) => put(front_mut(&mut self.ceilings, lent), ceiling),
+            Damage::Area(area) => put(front_mut(&mut self.areas, lent), area),
+            Damage::Next(slot) => put(front_mut(&mut self.nexts, lent), slot),
+            Damage::Mark(mark) => put(front_mut(&mut self.marks, lent), mark),
         }
     }
 }
@@ -110,15 +110,12 @@ pub fn front_mut<T>(all: &mut [T], count: usize) -> &mut [T] {
     &mut all[..end]
 }
 
-// Puts an entry among the first `count`, and answers whether there is such a place.
-fn put<T: Copy>(all: &mut [T], count: usize, i: usize, entry: T) -> bool {
-    match front_mut(all, count).get_mut(i) {
-        Some(place) => {
-            *place = entry;
-            true
-        }
-        None => false,
+fn put<T: Copy>(slice: &mut [T], entry: Entry<T>) -> bool {
+    let has_place = entry.index < slice.len();
+    if has_place {
+        slice[entry.index] = entry.value;
     }
+    has_place
 }
 
 #[derive(Clone, Copy)]

@@ -1,5 +1,5 @@
 // The words of a line: what stands between spaces, up to a `#`.
-ghost use Rattle.std.specs.Prelude.{length};
+ghost use Rattle.std.specs.Prelude.{◌≤◌, length};
 ghost use Rattle.std.specs.Iterator.{at_most};
 
 fn is_space(b: u8) -> bool {
@@ -10,11 +10,23 @@ fn is_space(b: u8) -> bool {
 #[derive(Clone, Copy, Default)]
 pub struct Words<'a>(&'a [u8]);
 
+// Where the first byte of a kind stands, or the end.
+pub fn first<F: Fn(u8) -> bool>(bytes: &[u8], is_it: F) -> usize
+    requires { F.IsAlwaysCallable is_it }
+    ensures { result ≤ length bytes.now }
+{
+    for (i, b) in bytes.iter().enumerate() {
+        if is_it(*b) {
+            return i;
+        }
+    }
+    bytes.len()
+}
+
 impl<'a> Words<'a> {
     // Those of a line, without its comment.
     pub fn of(line: &'a [u8]) -> Words<'a> {
-        let end = line.iter().position(|b| *b == b'#');
-        Words(&line[..end.unwrap_or(line.len())])
+        Words(&line[..first(line, |b| b == b'#')])
     }
 }
 
@@ -24,11 +36,9 @@ impl<'a> Iterator for Words<'a> {
     ghost remaining = { λ s. at_most (length s.0.now) };
 
     fn next(&mut self) -> Option<&'a [u8]> {
-        let start = self.0.iter().position(|b| !is_space(*b))?;
-        let rest = &self.0[start..];
+        let rest = &self.0[first(self.0, |b| !is_space(b))..];
         let (_first, others) = rest.split_first()?;
-        let end = others.iter().position(|b| is_space(*b));
-        let (word, rest) = rest.split_at(1 + end.unwrap_or(others.len()));
+        let (word, rest) = rest.split_at(1 + first(others, is_space));
         self.0 = rest;
         Some(word)
     }

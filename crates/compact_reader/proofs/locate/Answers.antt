@@ -1,23 +1,30 @@
--- `locate` meets its contract: each answer of the grid's tests is passed on, and past them the place is tested.
-use mathlib.Core.Path.{sym}
-use mathlib.Core.Logic.{inl}
-use mathlib.Core.List.{[], ◌∷◌}
-use Rattle.replies.specs.Said.{real}
+-- `locate` meets its contract: the grid's tests, then that of the slices, then that of the place.
+use Rattle.std.proofs.Common.{◌≡◌, None}
+use Rattle.std.proofs.lemmas.Result.{err_from_is_err_and}
 use Rattle.grid.proofs.Accepted as grids
-use Rattle.compact_reader.proofs.Places.{located}
+use Rattle.compact_reader.specs.declared.Refusal.TheVariants as refusal
+use Rattle.compact_reader.proofs.Places.{too_few, off_grid, stands}
 use Rattle.compact_reader.proofs.locate.Goals as goal
 
-pub locate_in-requires : goal.locate_in-requires
-locate_in-requires c = let k = grids.fine c.args.grid c.check-answer.result c.check-answer.ensures _ _ c.in-Fine.is in rw (k.1.0, k.1.1) k.0.columns-le
+pub returns-then-shortest-columns : goal.returns-then-shortest-columns
+returns-then-shortest-columns c =
+    let g = c.args.grid in
+    let k = grids.fine g c.check.result c.check.ensures _ c.in_ok-size.was in
+    too_few g c.in_ok-size.size k _ _ _ (rw c.columns.ensures at c.if-shortest-columns.true)
 
-pub returns-in-Fine : goal.returns-in-Fine
-returns-in-Fine c = let k = grids.fine c.args.grid c.check-answer.result c.check-answer.ensures _ _ c.in-Fine.is in located c.locate_in.result c.args.grid c.args.shortest c.args.x c.args.z k c.locate_in.ensures
+pub returns-in_err-column : goal.returns-in_err-column
+returns-in_err-column c =
+    let g = c.args.grid in
+    let k = grids.fine g c.check.result c.check.ensures _ c.in_ok-size.was in
+    let none : c.column.result ≡ None = c.in_err-column.ensures.ok_part in
+    let off : c.in_err-column.field-0.0 ≡ refusal.OffGrid = cc (rw none at c.in_err-column.ensures.value) in
+    let p = err_from_is_err_and c.from_residual-in_err-column.result c.from_residual-in_err-column.ensures.1 in
+    rw (p.1, p.2, off)
+    (off_grid g c.in_ok-size.size k _ _ _ (rw c.columns.ensures at c.if-shortest-columns.false) (rw none at c.column.ensures))
 
-pub returns-in-BadNumber : goal.returns-in-BadNumber
-returns-in-BadNumber c = let e = grids.bad-number c.args.grid c.check-answer.result c.check-answer.ensures c.in-BadNumber.n c.in-BadNumber.is in inl (grids.refused c.args.grid 0 (real c.in-BadNumber.n ∷ []) e, sym e)
-
-pub returns-in-BoxOrder : goal.returns-in-BoxOrder
-returns-in-BoxOrder c = let e = grids.box-order c.args.grid c.check-answer.result c.check-answer.ensures c.in-BoxOrder.is in inl (grids.refused c.args.grid 1 [] e, sym e)
-
-pub returns-in-GridSize : goal.returns-in-GridSize
-returns-in-GridSize c = let e = grids.grid-size c.args.grid c.check-answer.result c.check-answer.ensures c.in-GridSize.width c.in-GridSize.height c.in-GridSize.is in inl (grids.refused c.args.grid 2 (real c.in-GridSize.width ∷ real c.in-GridSize.height ∷ []) e, sym e)
+pub returns : goal.returns
+returns c =
+    let g = c.args.grid in
+    let k = grids.fine g c.check.result c.check.ensures _ c.in_ok-size.was in
+    stands g c.in_ok-size.size k _ _ _ _ (rw c.columns.ensures at c.if-shortest-columns.false)
+    (rw c.in_ok-column.ensures.ok_part at c.column.ensures)

@@ -11,10 +11,10 @@ held : (c : goal.Start) → T (fits binary32 c.args.x)
 held c = subst T (sym c.well_formed.0.1) tt
 
 low : (c : goal.Start) → le (most 0) c.args.x ≡ true
-low c = is_true _ c.requires.fact_1
+low c = is_true _ c.requires.at_least_one
 
 high : (c : goal.Start) → lt c.args.x (most 31) ≡ true
-high c = is_true _ c.requires.fact_2
+high c = is_true _ c.requires.below_limit
 
 pub overflow_cast-bits : goal.overflow_cast-bits
 overflow_cast-bits c = record { fits = bits_fit c.args.x (held c) (low c) (high c) }
@@ -25,8 +25,8 @@ overflow_sub-result c = at_one c.args.x (held c) (low c) (high c)
 pub overflow_shl-result : goal.overflow_shl-result
 overflow_shl-result c = shift c.args.x (held c) (low c) (high c)
 
-pub returns-clause-fact_1 : goal.returns-clause-fact_1
-returns-clause-fact_1 c = exact c.args.x (held c) (low c) (high c)
+pub returns-clause-same_value : goal.returns-clause-same_value
+returns-clause-same_value c = exact c.args.x (held c) (low c) (high c)
 
-pub returns-clause-fact_2 : goal.returns-clause-fact_2
-returns-clause-fact_2 c = room c.args.x (held c) (low c) (high c)
+pub returns-clause-room : goal.returns-clause-room
+returns-clause-room c = room c.args.x (held c) (low c) (high c)

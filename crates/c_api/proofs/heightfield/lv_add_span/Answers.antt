@@ -4,5 +4,5 @@ use Rattle.c_api.proofs.heightfield.lv_add_span.Goals as goal
 
 pub returns : goal.returns
 returns c =
-    let called = c.add_span-reply in
+    let called = c.add_span-answer in
     (said_of called.result, rw c.grid_of.ensures at called.ensures, c.tell.ensures)

@@ -4,5 +4,5 @@ use Rattle.c_api.proofs.heightfield.lv_fresh.Goals as goal
 
 pub returns : goal.returns
 returns c =
-    let called = c.fresh-reply in
+    let called = c.fresh-answer in
     (said_of called.result, rw c.grid_of.ensures at called.ensures, c.tell.ensures)

@@ -4,5 +4,5 @@ use Rattle.c_api.proofs.heightfield.lv_populate_from_trimesh.Goals as goal
 
 pub returns : goal.returns
 returns c =
-    let called = c.populate_from_trimesh-reply in
+    let called = c.populate_from_trimesh-answer in
     (said_of called.result, rw c.grid_of.ensures at called.ensures, c.tell.ensures)

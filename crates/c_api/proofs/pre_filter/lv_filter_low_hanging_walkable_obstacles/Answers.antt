@@ -4,5 +4,5 @@ use Rattle.c_api.proofs.pre_filter.lv_filter_low_hanging_walkable_obstacles.Goal
 
 pub returns : goal.returns
 returns c =
-    let called = c.filter_low_hanging_walkable_obstacles-reply in
+    let called = c.filter_low_hanging_walkable_obstacles-answer in
     (said_of called.result, rw c.grid_of.ensures at called.ensures, c.tell.ensures)

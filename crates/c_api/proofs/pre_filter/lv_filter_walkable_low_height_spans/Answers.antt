@@ -4,5 +4,5 @@ use Rattle.c_api.proofs.pre_filter.lv_filter_walkable_low_height_spans.Goals as 
 
 pub returns : goal.returns
 returns c =
-    let called = c.filter_walkable_low_height_spans-reply in
+    let called = c.filter_walkable_low_height_spans-answer in
     (said_of called.result, rw c.grid_of.ensures at called.ensures, c.tell.ensures)

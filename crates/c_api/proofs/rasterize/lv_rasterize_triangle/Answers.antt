@@ -4,5 +4,5 @@ use Rattle.c_api.proofs.rasterize.lv_rasterize_triangle.Goals as goal
 
 pub returns : goal.returns
 returns c =
-    let called = c.rasterize_triangles-reply in
+    let called = c.rasterize_triangles-answer in
     (said_of called.result, rw c.grid_of.ensures at called.ensures, c.tell.ensures)

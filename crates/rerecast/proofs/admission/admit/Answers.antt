@@ -1,6 +1,12 @@
 -- `admit` meets its contract: the grid's tests, and past them the store's.
-use Rattle.rerecast.proofs.Admitted.{granted, few-columns}
+use Rattle.std.proofs.lemmas.Result.{err_from_is_err_and}
+use Rattle.rerecast.proofs.Admitted.{all-passed, store-refused}
 use Rattle.rerecast.proofs.admission.admit.Goals as goal
 
-pub admit_store-requires : goal.admit_store-requires
-admit_store-requires c = few-columns c.args.grid (granted _ _ c.size_of-size.ensures c.in-Granted.is)
+pub returns-in_err-admit_store : goal.returns-in_err-admit_store
+returns-in_err-admit_store c =
+    let p = err_from_is_err_and c.from_residual-in_err-admit_store.result c.from_residual-in_err-admit_store.ensures.1 in
+    rw (p.1, p.2) (store-refused c.args.grid c.in_ok-size.size c.in_ok-size.ensures _ _ _ _ c.in_err-admit_store.ensures)
+
+pub returns : goal.returns
+returns c = all-passed c.args.grid c.in_ok-size.size c.in_ok-size.ensures _ _ _ c.in_ok-admit_store.ensures

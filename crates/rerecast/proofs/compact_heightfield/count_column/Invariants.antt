@@ -5,7 +5,7 @@ use Rattle.field.proofs.Tallying.{Tallying}
 use Rattle.rerecast.proofs.compact_heightfield.count_column.Given as goal
 
 abbrev pub invariant-loop-at : goal.invariant-loop-at
-invariant-loop-at l = Tallying l.areas l.nexts l.head l.n l.at
+invariant-loop-at l = Tallying l.areas l.columns.nexts.now l.fn.head l.n l.at
 
 abbrev pub decreases-loop-at : goal.decreases-loop-at
-decreases-loop-at l = length (slots_from l.nexts l.at)
+decreases-loop-at l = length (slots_from l.columns.nexts.now l.at)

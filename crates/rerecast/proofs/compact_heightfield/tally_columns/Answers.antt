@@ -7,44 +7,31 @@ use Rattle.field.proofs.Opening.{cells_wide}
 use Rattle.field.proofs.Tallying.{adding-start, adding-step, adding-end, counted}
 use Rattle.rerecast.proofs.compact_heightfield.tally_columns.Goals as goal
 
-pub loop-i-init : goal.loop-i-init
-loop-i-init c = (omega arith, omega arith, λ free fl ce f H. adding-start (cells (columns_of f)))
-
-pub offset_bounds-heads-i : goal.offset_bounds-heads-i
-offset_bounds-heads-i c = omega (arith, c.requires.heads_len_bound)
-
-pub bounds-heads-i : goal.bounds-heads-i
-bounds-heads-i c = omega arith
+pub loop-head-init : goal.loop-head-init
+loop-head-init c = (omega arith, λ f H. adding-start (cells (columns_of f)))
 
 pub count_column-n-requires : goal.count_column-n-requires
 count_column-n-requires c =
-    let g = c.requires.by_index in
-    record { areas_len = g.4.sized.areas; by_index = (_, column-chain g.4 c.loop-i.i c.loop-i-test.true) }
+    let g = c.requires.held in
+    record { even = g.1.sized.areas; is_chain = (_, column-chain g.1 c.loop-head.head-index c.loop-head-test.true) }
 
 pub returns-then-n : goal.returns-then-n
 returns-then-n c =
-    λ free fl ce f H few.
-    let l = c.loop-i-test.true in
-    omega (arith, few c.loop-i.i (omega (arith, cells_wide H)), counted H l c.count_column-n.ensures, c.if-n.true)
+    λ f H few.
+    let l = c.loop-head-test.true in
+    omega (arith, few c.loop-head.head-index (omega (arith, cells_wide H)), counted H l c.count_column-n.ensures, c.if-n.true)
 
 pub overflow_add-total : goal.overflow_add-total
-overflow_add-total c = omega (arith, c.requires.heads_len_bound)
+overflow_add-total c = omega (arith, c.requires.few)
 
-pub overflow_add-i : goal.overflow_add-i
-overflow_add-i c = omega arith
-
-pub loop-i-smaller : goal.loop-i-smaller
-loop-i-smaller c = omega arith
-
-pub loop-i-preserved : goal.loop-i-preserved
-loop-i-preserved c = (
+pub loop-head-preserved : goal.loop-head-preserved
+loop-head-preserved c = (
   omega arith,
-  omega arith,
-  λ free fl ce f H.
-      let l = c.loop-i-test.true in
-      rw (add-one c.loop-i.i)
-      (adding-step (c.loop-i.invariant.2 free fl ce f H) (omega (arith, cells_wide H)) (counted H l c.count_column-n.ensures) c.if-n.false),
+  λ f H.
+      let l = c.loop-head-test.true in
+      rw (add-one c.loop-head.head-index)
+      (adding-step (c.loop-head.invariant.1 f H) (omega (arith, cells_wide H)) (counted H l c.count_column-n.ensures) c.if-n.false),
 )
 
 pub returns : goal.returns
-returns c = λ free fl ce f H. adding-end (c.loop-i.invariant.2 free fl ce f H) (omega (arith, cells_wide H))
+returns c = λ f H. adding-end (c.loop-head.invariant.1 f H) (omega (arith, cells_wide H))

@@ -1,6 +1,7 @@
 -- `fresh` meets its contract: the grid's tests, and past them the store's.
-use Rattle.rerecast.proofs.Admitted.{granted, few-columns}
+use Rattle.std.proofs.Common.{rules}
+use Rattle.rerecast.proofs.Admitted.{freshened}
 use Rattle.rerecast.proofs.heightfield.fresh.Goals as goal
 
-pub fresh_store-requires : goal.fresh_store-requires
-fresh_store-requires c = few-columns c.args.grid (granted _ _ c.size_of-size.ensures c.in-Granted.is)
+pub returns : goal.returns
+returns c = freshened c.args.grid c.in_ok-size.size c.in_ok-size.ensures _ _ _ _ c.fresh_store.new.slots (search rules) c.fresh_store.ensures.fresh

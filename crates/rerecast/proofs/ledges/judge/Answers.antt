@@ -1,9 +1,10 @@
 -- `judge` meets its contract: each answer is what the test for a ledge says where it is given.
-use Prim.Native.Nat.{ℕ, ◌+◌, ◌-◌, ◌<◌}
+use Prim.Native.Nat.{ℕ, ◌+◌, ◌-◌}
 use mathlib.Core.Path.{◌≡◌, sym, ◌∙◌}
-use mathlib.Core.Bool.{Bool}
+use mathlib.Core.Bool.{Bool, false}
 use mathlib.Core.List.{List, [], ◌∷◌}
-use native.Mathlib.Omega.{arith}
+use lib.Dec.{leb}
+use borrow.Author.Tests.{leb-true, leb-false}
 use Rattle.field.specs.declared.Span.{Span}
 use Rattle.field.specs.Ledges.{Stand}
 use Rattle.field.specs.LedgeTest.{looked_at, tells, ledge}
@@ -13,40 +14,31 @@ use Rattle.rerecast.specs.PreFilter.{stand_of}
 use Rattle.rerecast.proofs.ledges.judge.Goals as goal
 
 -- where the hollow is no gap, the look around decides
-decided : (st : Stand) {hollow : ℕ} (at : ℕ → List Span) (w i : ℕ) {steep : Bool} → hollow < st.top + st.height
+decided : (st : Stand) {hollow : ℕ} (at : ℕ → List Span) (w i : ℕ) {steep : Bool} → false ≡ leb (st.top + st.height) hollow
     → steep ≡ tells st (looked_at st at (around w i)) → Inside (around w i) → hollow ≡ hollow_of at (around w i) → ledge st at (around w i) ≡ steep
-decided st at w i low e inside h = ledge-look st at (around w i) inside (rw (← h) low) ∙ sym e
+decided st at w i low e inside h = ledge-look st at (around w i) inside (leb-false _ _ (rw (← h) (sym low))) ∙ sym e
 
-pub returns-then-wide-need : goal.returns-then-wide-need
-returns-then-wide-need c =
-    λ areas at w i k. (k, λ inside h. rw (ledge-low (stand_of c.args.st) at (around w i) inside (omega arith)))
+pub returns-then-not-has_room-clause-judged : goal.returns-then-not-has_room-clause-judged
+returns-then-not-has_room-clause-judged c areas at w i k inside h =
+    rw (ledge-low (stand_of c.args.st) at (around w i) inside (leb-false _ _ (sym c.if-not-has_room.ensures)))
 
-pub returns-then-need-wide : goal.returns-then-need-wide
-returns-then-need-wide c =
-    λ areas at w i k. (
-      k,
-      λ inside h.
-          rw (ledge-gap (stand_of c.args.st) at (i - 1) ((i + w) ∷ (i + 1) ∷ (i - w) ∷ []) inside (omega arith) (omega arith)),
-    )
+pub returns-then-has_room-clause-judged : goal.returns-then-has_room-clause-judged
+returns-then-has_room-clause-judged c areas at w i k inside h =
+    let above = leb-true _ _ (sym c.if-not-has_room.ensures) in
+    let gap = leb-true _ _ (rw h at (sym c.if-has_room.ensures)) in
+    rw (ledge-gap (stand_of c.args.st) at (i - 1) ((i + w) ∷ (i + 1) ∷ (i - w) ∷ []) inside above gap)
 
-pub looks_steep-requires : goal.looks_steep-requires
-looks_steep-requires c =
-    let p = c.requires.by_index in
-    let moved = rw (c.wide.ensures, c.wide-2.ensures) at c.follow-further.ensures.by_index_2 in
-    record {
-      floors_len = c.requires.floors_len;
-      by_index = (p.0, p.1, p.2, p.3, moved c.args.ceilings.now p.0 p.1 p.2 p.3 p.4);
-      height_bound = (omega arith, rw (c.wide.ensures, c.wide-2.ensures) at c.follow-further.ensures.all_under);
-    }
+pub looks_steep-requires-clause-are_cursors : goal.looks_steep-requires-clause-are_cursors
+looks_steep-requires-clause-are_cursors c =
+    let p = c.requires.are_cursors in
+    (p.0, p.1, p.2, p.3, c.follow-sides.ensures.keeps_cursors p.0 p.1 p.2 p.3 p.4)
 
-pub returns-then-looks_steep : goal.returns-then-looks_steep
-returns-then-looks_steep c =
-    λ areas at w i k.
-    let moved = (rw (c.wide.ensures, c.wide-2.ensures) at c.follow-further.ensures.by_index_2) c.args.ceilings.now areas at w i k in
-    (moved, λ inside h. rw (decided (stand_of c.args.st) at w i (omega arith) (c.looks_steep.ensures areas at w i moved) inside h, c.if-looks_steep.true))
+pub returns-then-looks_steep-clause-judged : goal.returns-then-looks_steep-clause-judged
+returns-then-looks_steep-clause-judged c areas at w i k inside h =
+    let further = c.follow-sides.ensures.keeps_cursors areas at w i k in
+    rw (decided (stand_of c.args.st) at w i c.if-has_room.ensures (c.if-looks_steep.ensures areas at w i further) inside h)
 
-pub returns : goal.returns
-returns c =
-    λ areas at w i k.
-    let moved = (rw (c.wide.ensures, c.wide-2.ensures) at c.follow-further.ensures.by_index_2) c.args.ceilings.now areas at w i k in
-    (moved, λ inside h. rw (decided (stand_of c.args.st) at w i (omega arith) (c.looks_steep.ensures areas at w i moved) inside h, c.if-looks_steep.false))
+pub returns-clause-judged : goal.returns-clause-judged
+returns-clause-judged c areas at w i k inside h =
+    let further = c.follow-sides.ensures.keeps_cursors areas at w i k in
+    rw (decided (stand_of c.args.st) at w i c.if-has_room.ensures (c.if-looks_steep.ensures areas at w i further) inside h)

@@ -1,61 +1,29 @@
 -- `look` meets its contract.
+use mathlib.Core.Path.{refl, sym}
 use native.Mathlib.Omega.{arith}
-use mathlib.Core.Path.{sym, ap, ◌∙◌}
-use mathlib.Core.List.{map}
-use borrow.Author.Tests.{not-true, leb-false}
-use Rattle.field.specs.Slots.{contents, span_at}
-use Rattle.field.proofs.Looking.{looked-drop}
-use Rattle.field.proofs.LookingUp.{looking-start, looking-slot, looking-next, looking-less, looking-step, looking-drop, looking-stop, looking-end}
-use Rattle.rerecast.specs.PreFilter.{stand_of, view_of}
-use mathlib.Core.Bool.{not}
+use borrow.Author.Tests.{leb-false}
+use Rattle.field.proofs.LookingUp.{looking-start, looking-step, looking-drop, looking-stop, looking-end}
+use Rattle.rerecast.proofs.Columns.{chain-reached}
 use Rattle.rerecast.proofs.ledges.look.Goals as goal
 
-pub returns-then-start : goal.returns-then-start
-returns-then-start c =
-    λ areas ss k.
-    let a = c.args in
-    sym (looked-drop (stand_of a.st) (view_of a.start) (map (span_at (contents a.floors.now a.ceilings.now areas)) ss) c.if-start.true)
-
 pub loop-at-init : goal.loop-at-init
-loop-at-init c = (looking-start _ _ c.requires.by_index.0 c.requires.by_index.1.0 c.requires.by_index.1.1 c.requires.height_bound.1, c.if-start.false)
-
-pub offset_bounds-ceilings-i : goal.offset_bounds-ceilings-i
-offset_bounds-ceilings-i c = omega (arith, looking-slot c.loop-at.invariant.0 c.loop-at-test.true)
-
-pub bounds-ceilings-i : goal.bounds-ceilings-i
-bounds-ceilings-i c = omega (arith, looking-slot c.loop-at.invariant.0 c.loop-at-test.true)
-
-pub returns-then-not-has_room : goal.returns-then-not-has_room
-returns-then-not-has_room c =
-    looking-stop c.loop-at.invariant.0 c.loop-at-test.true
-    (leb-false _ _ (rw c.index-i.ensures at (sym c.has_room.ensures) ∙ not-true _ (ap not c.if-not-has_room.true)))
-
-pub offset_bounds-nexts-i : goal.offset_bounds-nexts-i
-offset_bounds-nexts-i c = omega (arith, looking-slot c.loop-at.invariant.0 c.loop-at-test.true)
-
-pub bounds-nexts-i : goal.bounds-nexts-i
-bounds-nexts-i c = omega (arith, looking-slot c.loop-at.invariant.0 c.loop-at-test.true)
-
-pub roof_of-floor-requires : goal.roof_of-floor-requires
-roof_of-floor-requires c =
-    λ n.
-    let i = c.index-i.ensures in
-    rw i (omega (arith, looking-next c.loop-at.invariant.0 c.loop-at-test.true (rw i at n)))
-
-pub returns-then-v : goal.returns-then-v
-returns-then-v c =
-    let seen = rw (c.roof_of-floor.ensures, c.index-i.ensures) at c.see-v.ensures in
-    let further = looking-step c.loop-at.invariant.0 c.loop-at-test.true (omega arith) seen in
-    looking-drop further c.if-v.true
-
-pub loop-at-smaller : goal.loop-at-smaller
-loop-at-smaller c = rw c.index-i.ensures (looking-less c.loop-at.invariant.0 c.loop-at-test.true)
+loop-at-init c =
+    let chain = c.requires.is_chain in
+    (looking-start _ _ chain.0 chain.1.0 chain.1.1 c.requires.height_bound.1, chain-reached _ chain.1.0)
 
 pub loop-at-preserved : goal.loop-at-preserved
 loop-at-preserved c =
-    let seen = rw (c.roof_of-floor.ensures, c.index-i.ensures) at c.see-v.ensures in
-    let further = looking-step c.loop-at.invariant.0 c.loop-at-test.true (omega arith) seen in
-    rw c.index-i.ensures (further, c.if-v.false)
+    let further = looking-step c.loop-at.invariant.0 c.loop-at-test.true (omega arith) (rw c.roof_of-floor.ensures at c.in_ok-reach.ensures) in
+    (further, chain-reached further.left further.here)
 
-pub returns : goal.returns
-returns c = looking-end c.loop-at.invariant.0 c.loop-at-test.false
+pub returns-in_err-reach : goal.returns-in_err-reach
+returns-in_err-reach c areas ss k =
+    let further = looking-step c.loop-at.invariant.0 c.loop-at-test.true (omega arith) refl in
+    let drop = rw c.roof_of-floor.ensures at c.in_err-reach.ensures in
+    rw (c.from_residual.ensures, ← looking-drop further drop areas ss k) drop
+
+pub returns-after-loop-at : goal.returns-after-loop-at
+returns-after-loop-at c = looking-end c.loop-at.invariant.0 c.loop-at-test.false
+
+pub returns-then-not-has_room : goal.returns-then-not-has_room
+returns-then-not-has_room c = looking-stop c.loop-at.invariant.0 c.loop-at-test.true (leb-false _ _ (sym c.if-not-has_room.ensures))

@@ -1,48 +1,22 @@
 -- `skip` meets its contract.
 use native.Mathlib.Omega.{arith}
-use Rattle.field.specs.Slots.{contents}
-use Rattle.field.proofs.Chains.{chain-slot, chain-cons, chain-less}
+use Rattle.field.proofs.Chains.{chain-cons}
 use Rattle.field.proofs.Upward.{roof-of}
 use Rattle.field.proofs.Cursors.{cursor-next}
+use Rattle.rerecast.specs.Lent.{contents_in}
+use Rattle.rerecast.proofs.Columns.{chain-reached}
 use Rattle.rerecast.proofs.ledges.skip.Goals as goal
 
-pub offset_bounds-nexts-i : goal.offset_bounds-nexts-i
-offset_bounds-nexts-i c =
-    let k = c.loop-at.invariant.0 in
-    omega (arith, chain-slot k.0 k.1 c.loop-at-test.true, k.1.few)
-
-pub bounds-nexts-i : goal.bounds-nexts-i
-bounds-nexts-i c =
-    let k = c.loop-at.invariant.0 in
-    omega (arith, chain-slot k.0 k.1 c.loop-at-test.true, k.1.few)
-
-pub roof_of-requires : goal.roof_of-requires
-roof_of-requires c =
-    λ n.
-    let i = c.index-i.ensures in
-    let p = c.loop-at.invariant.0 in
-    let k = chain-cons p.0 p.1 c.loop-at-test.true in
-    rw i (omega (arith, chain-slot k.0 k.2 (rw i at n)))
-
-pub returns-then-need-wide : goal.returns-then-need-wide
-returns-then-need-wide c =
-    let i = c.index-i.ensures in
-    record { by_index_2 = c.loop-at.invariant.1; under = λ n. omega (arith, rw i at c.roof_of.ensures) }
-
-pub loop-at-smaller : goal.loop-at-smaller
-loop-at-smaller c =
-    let p = c.loop-at.invariant.0 in
-    let k = chain-cons p.0 p.1 c.loop-at-test.true in
-    rw c.index-i.ensures (chain-less p.0 k.0 p.1 k.1 k.2)
+pub loop-at-init : goal.loop-at-init
+loop-at-init c = let chain = c.requires.is_chain in (chain, chain-reached _ chain.1, λ areas whole k. k)
 
 pub loop-at-preserved : goal.loop-at-preserved
 loop-at-preserved c =
-    let i = c.index-i.ensures in
-    let p = c.loop-at.invariant.0 in
-    let k = chain-cons p.0 p.1 c.loop-at-test.true in
-    rw i (
+    let p = c.loop-at.invariant in
+    let k = chain-cons p.0.0 p.0.1 c.loop-at-test.true in (
       (k.0, k.2),
-      λ ceilings areas whole C.
-          cursor-next (c.loop-at.invariant.1 ceilings areas whole C) c.loop-at-test.true
-          (λ tl h. rw (roof-of (contents c.args.floors.now ceilings areas) tl h) (omega (arith, rw i at c.roof_of.ensures))),
+      chain-reached _ k.2,
+      λ areas whole C.
+          cursor-next (p.2 areas whole C) c.loop-at-test.true
+          (λ tl h. rw (roof-of (contents_in c.args.columns.now areas) tl h) (omega (arith, c.roof_of.ensures))),
     )

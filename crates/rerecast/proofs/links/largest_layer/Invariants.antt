@@ -8,8 +8,9 @@ use Rattle.field.proofs.Layers.{rest}
 use Rattle.rerecast.proofs.links.largest_layer.Given as goal
 
 abbrev pub invariant-loop-l : goal.invariant-loop-l
-invariant-loop-l l = let pass = passes l.q.tall l.q.climb (space l.q.y l.q.height 0) in
-    (l.l ≤ l.n) × (l.n ≤ 255) × (largest pass l.best l.l (rest l.ys l.data l.first l.n l.l) ≡ largest pass 0 63 (shown l.ys l.data (l.first + 63) (l.n - 63)))
-
-abbrev pub decreases-loop-l : goal.decreases-loop-l
-decreases-loop-l l = l.n - l.l
+invariant-loop-l l =
+    let pass = passes l.q.tall l.q.climb (space l.q.y l.q.height 0) in
+    let ys = l.compact.ys.now in
+    let ws = l.compact.words.now in
+    (l.l ≤ l.side.count)
+    × (largest pass l.best l.l (rest ys ws l.side.first l.side.count l.l) ≡ largest pass 0 63 (shown ys ws (l.side.first + 63) (l.side.count - 63)))

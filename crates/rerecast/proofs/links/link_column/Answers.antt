@@ -6,7 +6,7 @@ use lib.ListN.{get_or}
 use Rattle.field.proofs.Basics.{no_length}
 use Rattle.rerecast.proofs.links.link_column.Goals as goal
 
-pub returns-then-cell_counts-column-eq0 : goal.returns-then-cell_counts-column-eq0
-returns-then-cell_counts-column-eq0 c cs size S =
-    let none_here : get_or cs c.args.column [] ≡ [] = no_length _ (sym (S.cell c.args.column (omega (arith, size, c.requires.column_bound.0))).count ∙ c.if-cell_counts-column-eq0.true) in
+pub returns-then-compact-column-eq0-clause-linked : goal.returns-then-compact-column-eq0-clause-linked
+returns-then-compact-column-eq0-clause-linked c cs e S =
+    let none_here : get_or cs c.args.column [] ≡ [] = no_length _ (sym (S.cell c.args.column (omega (arith, e, c.requires.on_grid))).count ∙ c.if-compact-column-eq0.true) in
     rw none_here (refl, refl, S)

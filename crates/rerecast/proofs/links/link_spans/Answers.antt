@@ -1,69 +1,82 @@
 -- `link_spans` meets its contract.
-use Prim.Native.Nat.{◌+◌, max}
+use Prim.Native.Nat.{◌+◌, ◌<◌, max}
 use mathlib.Core.Path.{refl, sym, ap, ◌∙◌}
-use mathlib.Core.List.{[]}
-use lib.ListN.{get_or, length-set}
+use mathlib.Core.List.{List, []}
+use lib.ListN.{length, get_or, length-set}
 use native.Mathlib.Numerals.{add-one}
 use native.Mathlib.Omega.{arith}
 use Rattle.compact_span.specs.Word.{height_of}
 use Rattle.field.specs.Open.{Open}
+use Rattle.field.specs.Compact.{result_of, rows}
 use Rattle.field.specs.Links.{passes, around}
 use Rattle.field.proofs.Opening.{nowhere}
 use Rattle.field.proofs.Joining.{joining-step, joining-end, layer-is, shown-kept}
 use Rattle.field.proofs.Sides.{word-height}
-use Rattle.rerecast.specs.Compacting.{sides_of, cursors_of}
+use Rattle.rerecast.specs.declared.sides.Side.{Side}
 use Rattle.rerecast.proofs.Around.{sides-within, word-is, missed-is}
 use Rattle.rerecast.proofs.LinkCursors.{left-on}
 use Rattle.rerecast.proofs.links.link_spans.Goals as goal
 
-pub bind-b-requires : goal.bind-b-requires
-bind-b-requires c =
+pub bind-bound-requires-clause-within : goal.bind-bound-requires-clause-within
+bind-bound-requires-clause-within c =
     let s = c.args in
-    let p = c.requires in
-    let v = c.loop-l in
-    let S = p.cs_len.2 in
-    let h = (v.invariant.3 p.cs_len.0 p.cs_len.1 S).heights in
-    let up = S.climbs s.column (omega (arith, p.column_bound.0, p.cs_len.1)) in
-    let k = S.cell s.column (omega (arith, p.column_bound.0, p.cs_len.1)) in
-    let y = get_or s.ys.now (c.index-first.result + v.l) 0 in (
-      sides-within (shown-kept S h v.invariant.2) s.width s.depth s.column p.cs_len.1 p.column_bound.0 c.around_column-sides.ensures,
-      left-on s.tall s.climb y y s.ys.now s.«data».now v.«data» (omega arith) h (sides_of c.around_column-sides.result) (cursors_of v.cursors)
-          (v.invariant.4 y (λ j h. rw c.index-first.ensures (up j v.l (omega arith) (omega (arith, c.loop-l-test.true, k.count))))),
+    let p = c.loop-l.invariant in
+    let g = c.requires.cells_there in
+    let e = c.around_column-sides.ensures in (
+      ap (λ (l : List Side). length l) e,
+      rw p.1.ys (sides-within (shown-kept g.2 (p.2 g.0 g.1 g.2).heights p.1.words) s.size.width s.size.height s.column g.1 c.requires.on_grid e),
     )
+
+pub bind-bound-requires-clause-left : goal.bind-bound-requires-clause-left
+bind-bound-requires-clause-left c =
+    let s = c.args in
+    let v = c.loop-l in
+    let p = v.invariant in
+    let g = c.requires.cells_there in
+    let ys = s.compact.now.ys.now in
+    let here : s.column < length g.0 = omega (arith, c.requires.on_grid, g.1) in
+    let up = g.2.climbs s.column here in
+    let k = g.2.cell s.column here in
+    let y = get_or ys (get_or s.compact.now.indices.now s.column 0 + v.l) 0 in
+    rw p.1.ys (left-on s.tall s.climb y y ys s.compact.now.words.now v.compact.words.now (omega arith) (p.2 g.0 g.1 g.2).heights c.around_column-sides.result v.cursors
+    (p.3 y (λ j h. up j v.l (omega arith) (omega (arith, c.loop-l-test.true, k.count)))))
 
 pub loop-l-preserved : goal.loop-l-preserved
 loop-l-preserved c =
-    let g = c.requires.cs_len in
+    let g = c.requires.cells_there in
     let s = c.args in
-    let p = c.loop-l.invariant in
+    let v = c.loop-l in
+    let p = v.invariant in
     let h = c.loop-l-test.true in
-    let i = c.index-first.ensures in
-    let b = rw (c.height_in.ensures, i) at c.bind-b.ensures in (
-      omega (arith, h),
-      p.1,
-      length-set c.loop-l.«data» _ _ ∙ p.2,
+    let b = rw (c.height_in.ensures, p.1.ys) at c.bind-bound.ensures in (
+      p.0,
+      record { indices = p.1.indices; counts = p.1.counts; ys = p.1.ys; areas = p.1.areas; words = length-set v.compact.words.now _ _ ∙ p.1.words },
       λ cs e S.
-          let S' = shown-kept S (p.3 cs e S).heights p.2 in
-          let k = S'.cell s.column (omega (arith, c.requires.column_bound)) in
-          let o = get_or (get_or cs s.column []) c.loop-l.l nowhere in
-          let eo = layer-is k c.loop-l.l h in
+          let S' = shown-kept S (p.2 cs e S).heights p.1.words in
+          let k = S'.cell s.column (omega (arith, e, c.requires.on_grid)) in
+          let o = get_or (get_or cs s.column []) v.l nowhere in
+          let eo = layer-is k v.l (omega (arith, h, k.count)) in
           let es = c.around_column-sides.ensures in
-          let l = c.requires.column_bound.0 in
-          let w = word-is S' s.width s.depth s.column e l es s.tall s.climb o eo b.0 in
-          let m = missed-is S' s.width s.depth s.column e l es s.tall s.climb o eo b.1 in
-          rw (add-one c.loop-l.l, i)
-          (joining-step (p.3 cs e S) (omega (arith, h, k.count)) (omega (arith, h, k.in_words)) w
-          (ap height_of w ∙ word-height (passes s.tall s.climb) (around s.width s.depth cs s.column) o refl ∙ sym (ap (λ (q : Open). q.height) eo))
-          (c.greater_layer-most.ensures ∙ ap (max c.loop-l.most) m)),
+          let l = c.requires.on_grid in
+          let w = word-is S' s.size.width s.size.height s.column e l es s.tall s.climb o eo b.0 in
+          let m = missed-is S' s.size.width s.size.height s.column e l es s.tall s.climb o eo b.1 in
+          rw (add-one v.l)
+          (joining-step (p.2 cs e S) (omega (arith, h, k.count)) (omega (arith, h, k.in_words)) w
+          (ap height_of w ∙ word-height (passes s.tall s.climb) (around s.size.width s.size.height cs s.column) o refl ∙ sym (ap (λ (q : Open). q.height) eo))
+          (c.max-most.ensures ∙ ap (max v.most) m)),
       λ y h.
-          left-on s.tall s.climb _ y s.ys.now c.loop-l.«data» s.«data».now (h c.loop-l.l (omega arith)) (λ x. sym ((p.3 g.0 g.1 g.2).heights x))
-          (sides_of c.around_column-sides.result) (cursors_of c.bind-b.result.cursors) c.bind-b.ensures.2,
+          left-on s.tall s.climb _ y s.compact.now.ys.now v.compact.words.now s.compact.now.words.now (h v.l (omega arith)) (λ x. sym ((p.2 g.0 g.1 g.2).heights x))
+          c.around_column-sides.result c.bind-bound.result.cursors b.2,
     )
 
-pub returns : goal.returns
-returns c =
+pub returns-clause-linked : goal.returns-clause-linked
+returns-clause-linked c =
     λ cs e S.
-    let j = c.loop-l.invariant.3 cs e S in
-    let k = S.cell c.args.column (omega (arith, c.requires.column_bound)) in
-    let r = joining-end j (omega (arith, c.loop-l.invariant.0, c.loop-l-test.false, k.count)) in
-    (r.0, r.1, shown-kept S j.heights c.loop-l.invariant.2)
+    let p = c.loop-l.invariant in
+    let j = p.2 cs e S in
+    let k = S.cell c.args.column (omega (arith, e, c.requires.on_grid)) in
+    let r = joining-end j (omega (arith, c.loop-l-test.false, k.count)) in (
+      λ i. result_of (p.1.indices i) (p.1.counts i) (rows (p.1.ys i) (r.0 i) (p.1.areas i)),
+      r.1,
+      rw (p.1.indices, p.1.counts, p.1.ys) (shown-kept S j.heights p.1.words),
+    )

@@ -1,41 +1,15 @@
 -- `lower_columns` meets its contract.
-use mathlib.Core.Path.{refl, ◌∙◌}
 use native.Mathlib.Numerals.{add-one}
 use native.Mathlib.Omega.{arith}
 use Rattle.field.specs.Field.{column_at}
 use Rattle.field.proofs.Holding.{column-chain, column-distinct}
-use Rattle.field.proofs.Sweeping.{sweep-begin, sweep-step, sweep-end}
+use Rattle.field.proofs.Sweeping.{sweep-step}
 use Rattle.rerecast.proofs.pre_filter.lower_columns.Goals as goal
 
-pub loop-i-init : goal.loop-i-init
-loop-i-init c = (omega arith, refl, λ free f H. sweep-begin H _)
+pub lower_column-requires-clause-is_chain : goal.lower_column-requires-clause-is_chain
+lower_column-requires-clause-is_chain c =
+    let H = c.requires.1 in
+    (column_at c.requires.0 c.loop-head.head-index, (column-chain H _ (omega arith), column-distinct H _))
 
-pub offset_bounds-heads-i : goal.offset_bounds-heads-i
-offset_bounds-heads-i c = omega arith
-
-pub bounds-heads-i : goal.bounds-heads-i
-bounds-heads-i c = omega arith
-
-pub lower_column-requires : goal.lower_column-requires
-lower_column-requires c =
-    let p = c.requires in
-    let H = p.1.1 in
-    let i = c.loop-i.i in
-    record { floors_len = (H.sized.floors, H.sized.ceilings, c.loop-i.invariant.1 ∙ H.sized.areas); by_index = (column_at p.1.0 i, (column-chain H i c.loop-i-test.true, column-distinct H i)) }
-
-pub overflow_add-i : goal.overflow_add-i
-overflow_add-i c = omega arith
-
-pub loop-i-smaller : goal.loop-i-smaller
-loop-i-smaller c = omega arith
-
-pub loop-i-preserved : goal.loop-i-preserved
-loop-i-preserved c = (
-  omega arith,
-  c.lower_column.auto.areas ∙ c.loop-i.invariant.1,
-  λ free f H.
-      rw add-one (sweep-step H _ c.loop-i.i c.loop-i-test.true (c.loop-i.invariant.2 free f H) c.lower_column.ensures),
-)
-
-pub returns : goal.returns
-returns c = λ free f H. sweep-end H _ (omega arith) (c.loop-i.invariant.2 free f H)
+pub loop-head-preserved : goal.loop-head-preserved
+loop-head-preserved c f H = rw add-one (sweep-step H _ _ (omega arith) (c.loop-head.invariant f H) c.lower_column.ensures)

@@ -1,17 +1,10 @@
 -- The loop's invariant: after each column, what is left of them ends as the whole would.
-use Prim.Native.Nat.{ℕ, ◌≤◌, ◌-◌}
-use mathlib.Core.Path.{◌≡◌}
-use lib.ListN.{length}
-use Rattle.field.specs.Slots.{slots}
 use Rattle.field.specs.Field.{Field, Holds}
 use Rattle.field.specs.Filters.{roomed}
 use Rattle.field.proofs.Sweeping.{Sweep}
+use Rattle.rerecast.specs.Lent.{slots_in}
 use Rattle.rerecast.proofs.pre_filter.lower_columns.Given as goal
 
-abbrev pub invariant-loop-i : goal.invariant-loop-i
-invariant-loop-i l = (l.i ≤ length l.heads)
-    × (length l.areas ≡ length l.initial.areas)
-    × ((free : ℕ) (f : Field) → Holds l.heads (slots free l.floors l.ceilings l.initial.areas l.nexts) f → Sweep (λ k below s above. roomed l.height s above) f l.areas l.i)
-
-abbrev pub decreases-loop-i : goal.decreases-loop-i
-decreases-loop-i l = length l.heads - l.i
+abbrev pub invariant-loop-head : goal.invariant-loop-head
+invariant-loop-head l =
+    (f : Field) → Holds l.columns.heads.now (slots_in l.columns l.initial.areas) f → Sweep (λ i below s above. roomed l.height s above) f l.areas l.head-index

@@ -41,8 +41,8 @@ module _ (f : Frame) (a b c : Corner) (xs ys zs : List Float) (ex : numbers_at x
       let last-is = cell-read f.grid.min.z f.inverse s₁ e₁ (greatest ∙ ap greatest_of ez) in
       rw loads (triangle-turns f (a ∷ b ∷ c ∷ []) (met true h) first last (rw first-is at p) (rw last-is at q))
 
-pub returns-then-not-meets : goal.returns-then-not-meets
-returns-then-not-meets c others f H =
+pub returns-then-not-meets-clause-carries : goal.returns-then-not-meets-clause-carries
+returns-then-not-meets-clause-carries c others f H =
     let a = c.args in
     let xs = c.three-xs in
     let ys = c.three-ys in
@@ -63,8 +63,8 @@ rows-requires-clause-ready c = (
   record { all-xs = c.three-xs.ensures.0; all-ys = c.three-ys.ensures.0; all-zs = c.three-zs.ensures.0 },
 )
 
-pub returns : goal.returns
-returns c others f H =
+pub returns-clause-carries : goal.returns-clause-carries
+returns-clause-carries c others f H =
     let a = c.args in
     let xs = c.three-xs in
     let ys = c.three-ys in
@@ -74,4 +74,4 @@ returns c others f H =
     let each = turns a.job.frame a.a a.b a.c xs.result ys.result zs.result xs.ensures.1 ys.ensures.1 zs.ensures.1
     (record { sfits = z₀.type_inv }) (record { sfits = z₁.type_inv }) c.least_of.ensures c.greatest_of.ensures z₀.ensures z₁.ensures (sym c.meets.ensures ∙ c.if-not-meets.false)
     c.first_of-first.result c.held_last-last.result c.first_of-first.ensures c.held_last-last.ensures in
-    remains-of a.job.frame.width a.job.threshold a.job.area 0 f each (c.rows.ensures others f H)
+    remains-of a.job.frame.width a.job.threshold a.job.area 0 f each (c.rows.ensures.carries others f H)

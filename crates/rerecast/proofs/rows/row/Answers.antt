@@ -1,4 +1,4 @@
--- `rasterize::row` meets its contract.
+-- `rows::row` meets its contract.
 use mathlib.Core.Path.{◌≡◌, sym, ap, ◌∙◌}
 use mathlib.Core.Bool.{true, false, ◌||◌}
 use mathlib.Core.List.{List, [], map}
@@ -50,8 +50,8 @@ module _ (f : Frame) (z : ℕ) (xs ys : List Float) (n : ℕ) (few : n ≤ 7) {x
       → row_events f z part ≡ turns_to X (edge_at f X) (cell_events f z) (last + 1) first part
   turns h first last a b = row-turns f z part (rw (first-is, last-is) at h) first last (rw first-is at a) (rw last-is at b)
 
-pub returns-then-misses : goal.returns-then-misses
-returns-then-misses c others f H =
+pub returns-then-misses-clause-carries : goal.returns-then-misses-clause-carries
+returns-then-misses-clause-carries c others f H =
     let a = c.args in
     let x₀ = c.cell_at-x0 in
     let x₁ = c.cell_at-x1 in
@@ -69,12 +69,12 @@ columns-requires-clause-ready c =
     let ready = c.requires.ready in
     (ready.0, ready.1, ready.2, last-inside c.args.job.frame.width _ ready.0.sides.some-wide c.held_last-last.ensures, ready.3, ready.4)
 
-pub returns : goal.returns
-returns c others f H =
+pub returns-clause-carries : goal.returns-clause-carries
+returns-clause-carries c others f H =
     let a = c.args in
     let x₀ = c.cell_at-x0 in
     let x₁ = c.cell_at-x1 in
     let each = turns a.job.frame a.z a.xs.now a.ys.now a.n c.requires.ready.2 (record { sfits = x₀.type_inv }) (record { sfits = x₁.type_inv })
     c.least_of.ensures c.greatest_of.ensures x₀.ensures x₁.ensures (sym c.misses.ensures ∙ c.if-misses.false)
     c.first_of-first.result c.held_last-last.result c.first_of-first.ensures c.held_last-last.ensures in
-    remains-of a.job.frame.width a.job.threshold a.job.area a.made f each (c.columns.ensures others f H)
+    remains-of a.job.frame.width a.job.threshold a.job.area a.made f each (c.columns.ensures.carries others f H)

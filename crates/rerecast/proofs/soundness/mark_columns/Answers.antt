@@ -1,21 +1,12 @@
 -- `mark_columns` meets its contract.
-use mathlib.Core.Path.{refl, ◌∙◌}
 use Rattle.field.proofs.Surveying.{surveyed-start, surveyed-broken, surveyed-step}
-use Rattle.rerecast.proofs.Told.{marked, broken}
 use Rattle.rerecast.proofs.soundness.mark_columns.Goals as goal
 
-pub loop-i-init : goal.loop-i-init
-loop-i-init c =
-    (surveyed-start _ _ _ _ _ c.requires.floors_len c.requires.nexts_len_bound.0 c.requires.nexts_len_bound.1, refl)
+pub loop-head-init : goal.loop-head-init
+loop-head-init c = surveyed-start _ _ _ _ _ c.requires.even c.requires.no_marks.0 c.requires.no_marks.1
 
-pub returns-in_default : goal.returns-in_default
-returns-in_default c =
-    surveyed-broken c.loop-i.invariant.0 c.loop-i-test.true
-    (broken _ _ _ _ _ _ c.mark_column-tally.ensures c.in_default.is)
+pub returns-in_err-n : goal.returns-in_err-n
+returns-in_err-n c = rw c.from_residual.ensures (surveyed-broken c.loop-head.invariant c.loop-head-test.true c.in_err-n.ensures)
 
-pub loop-i-preserved : goal.loop-i-preserved
-loop-i-preserved c =
-    let size = c.mark_column-tally.auto.marks in (
-      surveyed-step c.loop-i.invariant.0 c.loop-i-test.true (marked _ _ _ _ _ _ c.mark_column-tally.ensures c.in-Marked.is) size,
-      size ∙ c.loop-i.invariant.1,
-    )
+pub loop-head-preserved : goal.loop-head-preserved
+loop-head-preserved c = surveyed-step c.loop-head.invariant c.loop-head-test.true c.in_ok-n.ensures c.mark_column.auto.marks

@@ -1,5 +1,0 @@
--- `within` meets its contract.
-use Rattle.rerecast.proofs.pre_filter.within.Goals as goal
-
-pub returns : goal.returns
-returns c = simp (← c.wide.ensures, ← c.wide-2.ensures, ← c.wide-3.ensures)
