@@ -1,229 +1,214 @@
-// The commands, by number and by name.
-use crate::words::same;
-
-pub const NOTHING: u32 = 0;
-
-pub const CASE: u32 = 1;
-
-pub const GRID: u32 = 2;
-
-pub const SLOTS: u32 = 3;
-
-pub const SPANS: u32 = 4;
-
-pub const FRESH: u32 = 5;
-
-pub const ADD: u32 = 6;
-
-pub const VERTEX: u32 = 7;
-
-pub const AREA: u32 = 8;
-
-pub const FACE: u32 = 9;
-
-pub const NOMESH: u32 = 10;
-
-pub const RASTERIZE: u32 = 11;
-
-pub const POPULATE: u32 = 12;
-
-pub const LOW: u32 = 13;
-
-pub const LEDGES: u32 = 14;
-
-pub const CEILINGS: u32 = 15;
-
-pub const COMPACT: u32 = 16;
-
-pub const SHOW: u32 = 17;
-
-pub const POKE: u32 = 18;
-
-pub const HELP: u32 = 19;
-
-pub const TERSE: u32 = 20;
-
-// A line that cannot be read; its first number is the command that it begins with.
-pub const UNREAD: u32 = 21;
-
-// In place of a command, where the line is too long.
-pub const TOO_LONG: u32 = 22;
-
-// What `show` shows.
-pub const SHOW_COLUMNS: u32 = 1;
-
-pub const SHOW_RAW: u32 = 2;
-
-pub const SHOW_COMPACT: u32 = 3;
-
-pub const SHOW_MAP: u32 = 4;
-
-// What `poke` damages.
-pub const POKE_HEADS: u32 = 1;
-
-pub const POKE_FREE: u32 = 2;
-
-pub const POKE_FLOORS: u32 = 3;
-
-pub const POKE_CEILINGS: u32 = 4;
-
-pub const POKE_AREAS: u32 = 5;
-
-pub const POKE_NEXTS: u32 = 6;
-
-pub const POKE_MARKS: u32 = 7;
+// The commands: their names, how each is written, and what a line says once it is read.
+use crate::words::Words;
+use field::Span;
+use grid::Grid;
+use std::fmt;
 
 #[derive(Clone, Copy)]
-pub struct Command {
-    pub code: u32,
-    pub a: u32,
-    pub b: u32,
-    pub c: u32,
-    pub d: u32,
-    pub e: u32,
-    pub f: u32,
-    pub g: u32,
-    pub h: u32,
+pub enum Name {
+    Case,
+    Grid,
+    Slots,
+    Spans,
+    Fresh,
+    Add,
+    Vertex,
+    Area,
+    Face,
+    NoMesh,
+    Rasterize,
+    Populate,
+    Low,
+    Ledges,
+    Ceilings,
+    Compact,
+    Show,
+    Poke,
+    Help,
+    Terse,
 }
 
-// A command with at most three numbers.
-pub fn plain(code: u32, a: u32, b: u32, c: u32) -> Command {
-    Command {
-        code,
-        a,
-        b,
-        c,
-        d: 0,
-        e: 0,
-        f: 0,
-        g: 0,
-        h: 0,
+impl Name {
+    // In the order in which `help` lists them.
+    pub const ALL: [Name; 20] = [
+        Name::Case,
+        Name::Grid,
+        Name::Slots,
+        Name::Spans,
+        Name::Fresh,
+        Name::Add,
+        Name::Vertex,
+        Name::Area,
+        Name::Face,
+        Name::NoMesh,
+        Name::Rasterize,
+        Name::Populate,
+        Name::Low,
+        Name::Ledges,
+        Name::Ceilings,
+        Name::Compact,
+        Name::Show,
+        Name::Poke,
+        Name::Help,
+        Name::Terse,
+    ];
+
+    // The command that begins with this word.
+    pub fn of(word: &[u8]) -> Option<Name> {
+        Name::ALL
+            .into_iter()
+            .find(|name| name.word().as_bytes() == word)
+    }
+
+    pub fn word(self) -> &'static str {
+        match self {
+            Name::Case => "case",
+            Name::Grid => "grid",
+            Name::Slots => "slots",
+            Name::Spans => "spans",
+            Name::Fresh => "fresh",
+            Name::Add => "add",
+            Name::Vertex => "v",
+            Name::Area => "area",
+            Name::Face => "f",
+            Name::NoMesh => "nomesh",
+            Name::Rasterize => "rasterize",
+            Name::Populate => "populate",
+            Name::Low => "low",
+            Name::Ledges => "ledges",
+            Name::Ceilings => "ceilings",
+            Name::Compact => "compact",
+            Name::Show => "show",
+            Name::Poke => "poke",
+            Name::Help => "help",
+            Name::Terse => "terse",
+        }
+    }
+
+    // What follows the word.
+    fn rest(self) -> &'static str {
+        match self {
+            Name::Case => " NAME KIND",
+            Name::Grid => " MINX MINY MINZ MAXX MAXY MAXZ SIZE HEIGHT",
+            Name::Slots | Name::Spans => " N, at most 65536",
+            Name::Add => " X Z FLOOR CEILING AREA THRESHOLD",
+            Name::Vertex => " X Y Z",
+            Name::Area => " A, at most 255",
+            Name::Face => " I J K",
+            Name::Rasterize => " THRESHOLD",
+            Name::Populate | Name::Ledges | Name::Compact => " HEIGHT CLIMB",
+            Name::Low => " CLIMB",
+            Name::Ceilings => " HEIGHT",
+            Name::Show => " columns, show raw, show compact or show map",
+            Name::Poke => {
+                " SLICE INDEX VALUE, the slice one of heads, free, floors, ceilings, areas, nexts, marks"
+            }
+            Name::Fresh | Name::NoMesh | Name::Help | Name::Terse => "",
+        }
     }
 }
 
-// ---- names
-
-fn setting(word: &[u8]) -> u32 {
-    if same(word, b"case") {
-        return CASE;
+// How the command is written.
+impl fmt::Display for Name {
+    fn fmt<W: fmt::Write>(&self, f: &mut fmt::Formatter<W>) -> fmt::Result {
+        write!(f, "{}{}", self.word(), self.rest())
     }
-    if same(word, b"grid") {
-        return GRID;
-    }
-    if same(word, b"slots") {
-        return SLOTS;
-    }
-    if same(word, b"spans") {
-        return SPANS;
-    }
-    if same(word, b"terse") {
-        return TERSE;
-    }
-    if same(word, b"help") {
-        return HELP;
-    }
-    NOTHING
 }
 
-fn shaping(word: &[u8]) -> u32 {
-    if same(word, b"v") {
-        return VERTEX;
-    }
-    if same(word, b"f") {
-        return FACE;
-    }
-    if same(word, b"area") {
-        return AREA;
-    }
-    if same(word, b"nomesh") {
-        return NOMESH;
-    }
-    if same(word, b"add") {
-        return ADD;
-    }
-    if same(word, b"show") {
-        return SHOW;
-    }
-    if same(word, b"poke") {
-        return POKE;
-    }
-    NOTHING
+// What the robot needs: the walkable height and climb.
+#[derive(Clone, Copy)]
+pub struct Needs {
+    pub height: u16,
+    pub climb: u16,
 }
 
-fn calling(word: &[u8]) -> u32 {
-    if same(word, b"fresh") {
-        return FRESH;
-    }
-    if same(word, b"rasterize") {
-        return RASTERIZE;
-    }
-    if same(word, b"populate") {
-        return POPULATE;
-    }
-    if same(word, b"low") {
-        return LOW;
-    }
-    if same(word, b"ledges") {
-        return LEDGES;
-    }
-    if same(word, b"ceilings") {
-        return CEILINGS;
-    }
-    if same(word, b"compact") {
-        return COMPACT;
-    }
-    NOTHING
+// A span that is offered to a column.
+#[derive(Clone, Copy)]
+pub struct Offer {
+    pub x: u32,
+    pub z: u32,
+    pub span: Span,
+    pub threshold: u16,
 }
 
-pub fn code_of(word: &[u8]) -> u32 {
-    let a = shaping(word);
-    if a != NOTHING {
-        return a;
-    }
-    let b = setting(word);
-    if b != NOTHING {
-        return b;
-    }
-    calling(word)
+// What `show` shows.
+#[derive(Clone, Copy)]
+pub enum View {
+    Columns,
+    Raw,
+    Compact,
+    Map,
 }
 
-pub fn shown(word: &[u8]) -> u32 {
-    if same(word, b"columns") {
-        return SHOW_COLUMNS;
-    }
-    if same(word, b"raw") {
-        return SHOW_RAW;
-    }
-    if same(word, b"compact") {
-        return SHOW_COMPACT;
-    }
-    if same(word, b"map") {
-        return SHOW_MAP;
-    }
-    NOTHING
+// An entry of a slice.
+#[derive(Clone, Copy)]
+pub struct Entry<T> {
+    pub index: usize,
+    pub value: T,
 }
 
-pub fn poked(word: &[u8]) -> u32 {
-    if same(word, b"heads") {
-        return POKE_HEADS;
+// What `poke` damages, and what it puts there. The head of the free chain has no index.
+#[derive(Clone, Copy)]
+pub enum Damage {
+    Head(Entry<u32>),
+    Free(Entry<u32>),
+    Floor(Entry<u16>),
+    Ceiling(Entry<u16>),
+    Area(Entry<u8>),
+    Next(Entry<u32>),
+    Mark(Entry<u8>),
+}
+
+// A call of the library.
+#[derive(Clone, Copy)]
+pub enum Call {
+    Fresh,
+    Add(Offer),
+    // the threshold
+    Rasterize(u16),
+    Populate(Needs),
+    // the climb
+    Low(u16),
+    Ledges(Needs),
+    // the height
+    Ceilings(u16),
+    Compact(Needs),
+}
+
+// A line that was read.
+#[derive(Clone, Copy)]
+pub enum Command<'a> {
+    // the words that follow
+    Case(Words<'a>),
+    Grid(Grid),
+    Slots(usize),
+    Spans(usize),
+    Vertex([f32; 3]),
+    Area(u8),
+    // vertices, which lines count from 1
+    Face([u32; 3]),
+    NoMesh,
+    Call(Call),
+    Show(View),
+    Poke(Damage),
+    Help,
+    Terse,
+}
+
+// Why a line cannot be read. It prints as what was expected.
+#[derive(Clone, Copy)]
+pub enum Unread {
+    TooLong,
+    NoCommand,
+    Misused(Name),
+}
+
+impl fmt::Display for Unread {
+    fn fmt<W: fmt::Write>(&self, f: &mut fmt::Formatter<W>) -> fmt::Result {
+        match self {
+            Unread::TooLong => write!(f, "a line of at most 65535 bytes"),
+            Unread::NoCommand => write!(f, "a command: help lists them"),
+            Unread::Misused(name) => write!(f, "{name}"),
+        }
     }
-    if same(word, b"free") {
-        return POKE_FREE;
-    }
-    if same(word, b"floors") {
-        return POKE_FLOORS;
-    }
-    if same(word, b"ceilings") {
-        return POKE_CEILINGS;
-    }
-    if same(word, b"areas") {
-        return POKE_AREAS;
-    }
-    if same(word, b"nexts") {
-        return POKE_NEXTS;
-    }
-    if same(word, b"marks") {
-        return POKE_MARKS;
-    }
-    NOTHING
 }

@@ -1,211 +1,106 @@
 // A map of the field from above, a character for each column.
-use crate::lookup::{byte_at, height_at, index, least, word_at};
-use crate::state::State;
-use crate::writer::{Out, say, say_byte, say_number};
+ghost use Rattle.std.specs.Prelude.{◌<◌};
 
-// What is seen of a column: whether it has spans, whether one is walkable, and the ceiling of the topmost that is.
+use crate::store::Slots;
+use crate::writer::Out;
+
+// What is seen of a column from above.
 #[derive(Clone, Copy)]
-struct Seen {
-    spans: bool,
-    walkable: bool,
-    top: u16,
+enum Seen {
+    NoSpan,
+    NoWalkable,
+    // the ceiling of the topmost walkable span
+    Top(u16),
 }
 
-fn seen_with(v: Seen, ceiling: u16, area: u8) -> Seen {
-    if area == 0 {
-        return Seen {
-            spans: true,
-            walkable: v.walkable,
-            top: v.top,
-        };
-    }
-    Seen {
-        spans: true,
-        walkable: true,
-        top: ceiling,
-    }
-}
-
-fn look(head: u32, ceilings: &[u16], areas: &[u8], nexts: &[u32]) -> Seen {
-    let mut seen = Seen {
-        spans: false,
-        walkable: false,
-        top: 0,
-    };
-    let mut slot = head;
-    let mut rest = nexts.len();
-    while rest > 0 {
-        let i = index(slot);
-        if i >= nexts.len() {
-            return seen;
+impl Seen {
+    // The chains of a store that is not sound may run in circles: no more spans are looked at than there are slots.
+    fn of(head: u32, slots: Slots<'_>) -> Seen {
+        let mut seen = Seen::NoSpan;
+        for span in slots.chain(head, slots.nexts.len()) {
+            seen = match seen {
+                _ if span.area != 0 => Seen::Top(span.ceiling),
+                Seen::NoSpan => Seen::NoWalkable,
+                _ => seen,
+            };
         }
-        seen = seen_with(seen, height_at(ceilings, i), byte_at(areas, i));
-        slot = word_at(nexts, i);
-        rest -= 1;
+        seen
     }
-    seen
+
+    fn top(self) -> Option<u16> {
+        match self {
+            Seen::Top(top) => Some(top),
+            _ => None,
+        }
+    }
 }
 
 // The least and the greatest of the heights on the map.
 #[derive(Clone, Copy)]
 struct Range {
-    any: bool,
     low: u16,
     high: u16,
 }
 
-fn lesser(a: u16, b: u16) -> u16 {
-    if a < b { a } else { b }
+impl Range {
+    fn of(heads: &[u32], slots: Slots<'_>) -> Option<Range> {
+        let mut range: Option<Range> = None;
+        for head in heads {
+            if let Some(top) = Seen::of(*head, slots).top() {
+                let Range { low, high } = range.unwrap_or(Range {
+                    low: top,
+                    high: top,
+                });
+                range = Some(Range {
+                    low: low.min(top),
+                    high: high.max(top),
+                });
+            }
+        }
+        range
+    }
+
+    // How many heights share a character, so that 36 are enough.
+    fn step(self) -> u16
+        ensures { 0 < result }
+    {
+        self.high.saturating_sub(self.low) / 36 + 1
+    }
+
+    // 0 to 9, then a to z.
+    fn glyph(self, top: u16) -> char {
+        let level = top.saturating_sub(self.low) / self.step();
+        char::from_digit(level as u32, 36).unwrap_or('z')
+    }
 }
 
-fn greater(a: u16, b: u16) -> u16 {
-    if a < b { b } else { a }
-}
-
-fn widened(r: Range, v: Seen) -> Range {
-    if !v.walkable {
-        return r;
+pub fn map(out: &mut Out, width: u32, heads: &[u32], slots: Slots<'_>) {
+    writeln!(out, "show map");
+    let range = Range::of(heads, slots);
+    say_rows(out, width, heads, slots, range);
+    write!(out, ". no span, # no walkable span");
+    if let Some(range) = range {
+        let Range { low, high } = range;
+        let step = range.step();
+        write!(
+            out,
+            "; else the top of the highest walkable span, from 0 for {low} by {step} a character to {high}"
+        );
     }
-    if !r.any {
-        return Range {
-            any: true,
-            low: v.top,
-            high: v.top,
-        };
-    }
-    Range {
-        any: true,
-        low: lesser(r.low, v.top),
-        high: greater(r.high, v.top),
-    }
-}
-
-fn range_of(end: usize, heads: &[u32], ceilings: &[u16], areas: &[u8], nexts: &[u32]) -> Range {
-    let mut r = Range {
-        any: false,
-        low: 0,
-        high: 0,
-    };
-    let mut i = 0;
-    while i < end {
-        r = widened(r, look(word_at(heads, i), ceilings, areas, nexts));
-        i += 1;
-    }
-    r
-}
-
-// How many heights share a character, so that 36 are enough.
-fn step_of(r: Range) -> u16 {
-    if r.high < r.low {
-        return 1;
-    }
-    (r.high - r.low) / 36 + 1
-}
-
-// 0 to 9, then a to z.
-fn glyph(level: u16) -> u8 {
-    if level < 10 {
-        return 48 + level as u8;
-    }
-    if level < 36 {
-        return 87 + level as u8;
-    }
-    b'z'
-}
-
-fn level_of(top: u16, low: u16, step: u16) -> u16 {
-    if top < low {
-        return 0;
-    }
-    if step == 0 {
-        return 0;
-    }
-    (top - low) / step
-}
-
-fn mark_of(v: Seen, low: u16, step: u16) -> u8 {
-    if v.walkable {
-        return glyph(level_of(v.top, low, step));
-    }
-    if v.spans { b'#' } else { b'.' }
-}
-
-// The line's end after the last column of a row.
-fn say_end(out: &mut Out, across: usize) {
-    if across == 0 {
-        say(out, b"\n");
-    }
+    writeln!(out);
 }
 
 // The rows, x from left to right, z downwards.
-fn say_rows(
-    out: &mut Out,
-    width: usize,
-    end: usize,
-    low: u16,
-    step: u16,
-    heads: &[u32],
-    ceilings: &[u16],
-    areas: &[u8],
-    nexts: &[u32],
-) {
-    let mut i = 0;
-    let mut across: usize = 0;
-    while i < end {
-        let v = look(word_at(heads, i), ceilings, areas, nexts);
-        say_byte(out, mark_of(v, low, step));
-        across = next_across(across, width);
-        say_end(out, across);
-        i += 1;
-    }
-}
-
-// The next place in a row, 0 at its end.
-fn next_across(across: usize, width: usize) -> usize {
-    if across < width {
-        let next = across + 1;
-        if next < width {
-            return next;
+fn say_rows(out: &mut Out, width: u32, heads: &[u32], slots: Slots<'_>, range: Option<Range>) {
+    for (column, head) in heads.iter().enumerate() {
+        let glyph = match (Seen::of(*head, slots), range) {
+            (Seen::Top(top), Some(range)) => range.glyph(top),
+            (Seen::NoSpan, _) => '.',
+            _ => '#',
+        };
+        write!(out, "{glyph}");
+        if (column + 1).is_multiple_of(width as usize) {
+            writeln!(out);
         }
     }
-    0
-}
-
-fn say_range(out: &mut Out, r: Range, step: u16) {
-    if r.any {
-        say(
-            out,
-            b"; else the top of the highest walkable span, from 0 for ",
-        );
-        say_number(out, r.low as u64);
-        say(out, b" by ");
-        say_number(out, step as u64);
-        say(out, b" a character to ");
-        say_number(out, r.high as u64);
-    }
-}
-
-fn say_legend(out: &mut Out, r: Range, step: u16) {
-    say(out, b". no span, # no walkable span");
-    say_range(out, r, step);
-    say(out, b"\n");
-}
-
-pub fn map(s: State, out: &mut Out, heads: &[u32], ceilings: &[u16], areas: &[u8], nexts: &[u32]) {
-    say(out, b"show map\n");
-    let end = least(s.columns, heads.len());
-    let r = range_of(end, heads, ceilings, areas, nexts);
-    let step = step_of(r);
-    say_rows(
-        out,
-        index(s.width),
-        end,
-        r.low,
-        step,
-        heads,
-        ceilings,
-        areas,
-        nexts,
-    );
-    say_legend(out, r, step);
 }

@@ -1,335 +1,192 @@
-// Numbers as text. A whole number is decimal or `0x` and hexadecimal digits, and fits 32 bits. A float is `0x` and its bits, or decimal, or one of `nan`,
-// `inf` and `-inf`; it goes on as its bits.
-use crate::words::same;
+// Numbers as text. A whole number is decimal or `0x` and hexadecimal digits. A float is `0x` and its bits, or decimal, or one of `nan`, `inf` and `-inf`.
+ghost use Rattle.std.specs.Prelude.{◌≤◌, ◌<◌};
 
-// What stands for a text that is no number, and for a number that 32 bits do not hold: that or more.
-pub const UNREADABLE: u64 = 4294967296;
+use std::fmt;
+use std::num::{f32_from_bits_with_nan, f32_to_bits_with_nan, nearest_u32_to_f32};
 
-const NAN_BITS: u32 = 0x7fc00000;
-
-fn wide(b: u8) -> u64 {
-    b as u64
+// A number that a command takes, in as many bits as its place has.
+pub trait Number: Sized {
+    fn read(word: &[u8]) -> Option<Self>;
 }
 
-// A digit's value, and 99 of what is none.
-fn digit(b: u8) -> u64 {
-    if b < b'0' {
-        return 99;
+impl Number for u32 {
+    fn read(word: &[u8]) -> Option<u32> {
+        match word {
+            [b'0', b'x', digits @ ..] if !digits.is_empty() => whole(digits, 16),
+            _ => whole(word, 10),
+        }
     }
-    if b <= b'9' {
-        return wide(b - b'0');
-    }
-    if b < b'A' {
-        return 99;
-    }
-    if b <= b'F' {
-        return wide(b - b'A' + 10);
-    }
-    if b < b'a' {
-        return 99;
-    }
-    if b <= b'f' {
-        return wide(b - b'a' + 10);
-    }
-    99
 }
 
-// A number with one digit more.
-fn ten_times(n: u64, d: u64) -> u64 {
-    if n >= UNREADABLE {
-        return UNREADABLE;
+impl Number for u16 {
+    fn read(word: &[u8]) -> Option<u16> {
+        u16::try_from(u32::read(word)?).ok()
     }
-    if d > 9 {
-        return UNREADABLE;
-    }
-    n * 10 + d
 }
 
-fn sixteen_times(n: u64, d: u64) -> u64 {
-    if n >= UNREADABLE {
-        return UNREADABLE;
+impl Number for u8 {
+    fn read(word: &[u8]) -> Option<u8> {
+        u8::try_from(u32::read(word)?).ok()
     }
-    if d > 15 {
-        return UNREADABLE;
-    }
-    n * 16 + d
 }
 
-fn decimal(word: &[u8]) -> u64 {
-    let mut n: u64 = 0;
-    let mut i = 0;
-    while i < word.len() {
-        n = ten_times(n, digit(word[i]));
-        i += 1;
+impl Number for f32 {
+    fn read(word: &[u8]) -> Option<f32> {
+        match word {
+            [b'0', b'x', digits @ ..] if !digits.is_empty() => {
+                Some(f32_from_bits_with_nan(whole(digits, 16)?))
+            }
+            b"nan" => Some(f32::NAN),
+            b"inf" => Some(f32::INFINITY),
+            b"-inf" => Some(f32::NEG_INFINITY),
+            _ => decimal(word),
+        }
     }
-    n
 }
 
-// The digits after the first two bytes, in base 16.
-fn hexadecimal(word: &[u8]) -> u64 {
-    let mut n: u64 = 0;
-    let mut i = 2;
-    while i < word.len() {
-        n = sixteen_times(n, digit(word[i]));
-        i += 1;
-    }
-    n
+// The number of these digits, if 32 bits hold it.
+fn whole(digits: &[u8], base: u32) -> Option<u32>
+    requires { (2 ≤ base) × (base ≤ 36) }
+{
+    digits.iter().try_fold(0u32, |n, b| {
+        let digit = char::from(*b).to_digit(base)?;
+        n.checked_mul(base)?.checked_add(digit)
+    })
 }
 
-fn has_prefix(word: &[u8]) -> bool {
-    if word.len() > 2 {
-        return word[0] == b'0' && word[1] == b'x';
-    }
-    false
-}
-
-pub fn whole(word: &[u8]) -> u64 {
-    if has_prefix(word) {
-        return hexadecimal(word);
-    }
-    if word.len() == 0 {
-        return UNREADABLE;
-    }
-    decimal(word)
-}
-
-// ---- floats
-
-// The float of a pattern. All patterns of no number are one to us.
-pub fn float_of(bits: u32) -> f32 {
-    if bits % 2147483648 / 8388608 != 255 {
-        return f32::from_bits(bits);
-    }
-    if bits % 8388608 == 0 {
-        return f32::from_bits(bits);
-    }
-    0.0 / 0.0
-}
-
-// The pattern of a float.
-pub fn bits_of(x: f32) -> u32 {
-    if x == x {
-        return f32::to_bits(x);
-    }
-    NAN_BITS
-}
-
-// How far a decimal number is read: the place, the digits kept as one number, how many digits there were, how many of those after the point are kept, and
-// how many before it were left off.
+// A word as `0x` and eight digits.
 #[derive(Clone, Copy)]
+pub struct Bits(pub u32);
+
+impl From<f32> for Bits {
+    fn from(x: f32) -> Bits {
+        Bits(f32_to_bits_with_nan(x))
+    }
+}
+
+impl fmt::Display for Bits {
+    fn fmt<W: fmt::Write>(&self, f: &mut fmt::Formatter<W>) -> fmt::Result {
+        let Bits(bits) = self;
+        write!(f, "0x{bits:08x}")
+    }
+}
+
+// ---- decimal floats
+
+// The most that is counted of the digits behind the point or left off, and of an exponent.
+const MOST: u32 = 10000;
+
+// Digits read so far: those kept as one number, whether there were any, how many of those after the point are kept, and how many before it were left off.
+#[derive(Clone, Copy, Default)]
 struct Digits {
-    at: usize,
     value: u32,
-    count: u32,
+    any: bool,
     behind: u32,
     left: u32,
 }
 
-// A count that stops at ten thousand.
-fn one_more(n: u32) -> u32 {
-    if n < 10000 { n + 1 } else { n }
+fn counted(n: u32) -> u32 {
+    n.saturating_add(1).min(MOST)
 }
 
-// One digit more: nine are kept.
-fn with_digit(d: Digits, digit: u64, fraction: bool) -> Digits {
-    let mut t = d;
-    t.count = one_more(d.count);
-    if d.value < 100000000 {
-        if digit < 10 {
-            t.value = d.value * 10 + digit as u32;
+impl Digits {
+    // One digit more: nine are kept.
+    fn push(&mut self, digit: u32, fraction: bool)
+        requires { digit < 10 }
+    {
+        self.any = true;
+        if self.value < 100000000 {
+            self.value = self.value * 10 + digit;
+            if fraction {
+                self.behind = counted(self.behind);
+            }
+        } else if !fraction {
+            self.left = counted(self.left);
         }
-        if fraction {
-            t.behind = one_more(d.behind);
-        }
-    } else if !fraction {
-        t.left = one_more(d.left);
     }
-    t
-}
 
-// The digits at a place, until something else stands there.
-fn more_digits(word: &[u8], d: Digits, fraction: bool) -> Digits {
-    let mut t = d;
-    let mut i = d.at;
-    while i < word.len() {
-        let b = digit(word[i]);
-        if b > 9 {
-            t.at = i;
-            return t;
-        }
-        t = with_digit(t, b, fraction);
-        i += 1;
-    }
-    t.at = i;
-    t
-}
-
-fn byte_at(word: &[u8], i: usize) -> u8 {
-    if i < word.len() { word[i] } else { 0 }
-}
-
-fn after(word: &[u8], i: usize) -> usize {
-    if i < word.len() { i + 1 } else { i }
-}
-
-fn sign_at(word: &[u8], i: usize) -> usize {
-    let b = byte_at(word, i);
-    if b == b'-' {
-        return after(word, i);
-    }
-    if b == b'+' {
-        return after(word, i);
-    }
-    i
-}
-
-fn no_digits(at: usize) -> Digits {
-    Digits {
-        at,
-        value: 0,
-        count: 0,
-        behind: 0,
-        left: 0,
-    }
-}
-
-// The digits, and those after a point.
-fn mantissa(word: &[u8], at: usize) -> Digits {
-    let d = more_digits(word, no_digits(at), false);
-    let end = d.at;
-    if byte_at(word, end) != b'.' {
-        return d;
-    }
-    let mut t = d;
-    t.at = after(word, end);
-    more_digits(word, t, true)
-}
-
-// An exponent: its size, held to 10,000, whether it is below 0, and whether the word is read to its end.
-#[derive(Clone, Copy)]
-struct Exponent {
-    size: u32,
-    below: bool,
-    fine: bool,
-}
-
-fn read_exponent(word: &[u8], at: usize) -> Exponent {
-    let mark = byte_at(word, at);
-    if mark != b'e' {
-        if mark != b'E' {
-            return Exponent {
-                size: 0,
-                below: false,
-                fine: at == word.len(),
+    // Reads the digits in front, and answers what stands behind them.
+    fn read<'a>(&mut self, text: &'a [u8], fraction: bool) -> &'a [u8] {
+        for (i, b) in text.iter().enumerate() {
+            let Some(digit) = char::from(*b).to_digit(10) else {
+                return &text[i..];
             };
+            self.push(digit, fraction);
         }
-    }
-    let sign = after(word, at);
-    let d = more_digits(word, no_digits(sign_at(word, sign)), false);
-    let end = d.at;
-    Exponent {
-        size: held(d.value, d.left),
-        below: byte_at(word, sign) == b'-',
-        fine: d.count > 0 && end == word.len(),
+        &[]
     }
 }
 
-fn held(value: u32, left: u32) -> u32 {
-    if left > 0 {
-        return 10000;
-    }
-    if value > 10000 { 10000 } else { value }
-}
-
-fn ten_to(k: u32) -> f32 {
-    match k {
-        0 => 1.0,
-        1 => 10.0,
-        2 => 100.0,
-        3 => 1000.0,
-        4 => 10000.0,
-        5 => 100000.0,
-        6 => 1000000.0,
-        7 => 10000000.0,
-        8 => 100000000.0,
-        9 => 1000000000.0,
-        _ => 10000000000.0,
+// Whether a sign says that a number is below 0, and what stands behind the sign.
+fn signed(text: &[u8]) -> (bool, &[u8]) {
+    match text {
+        [b'-', rest @ ..] => (true, rest),
+        [b'+', rest @ ..] => (false, rest),
+        _ => (false, text),
     }
 }
 
-fn scaled_once(x: f32, k: u32, below: bool) -> f32 {
-    if below { x / ten_to(k) } else { x * ten_to(k) }
+// The exponent that a text is, if it is one or is empty: whether it is below 0, and its size, held to 10,000.
+fn exponent(text: &[u8]) -> Option<(bool, u32)> {
+    match text {
+        [] => Some((false, 0)),
+        [b'e' | b'E', rest @ ..] => {
+            let (below, text) = signed(rest);
+            let mut digits = Digits::default();
+            let behind = digits.read(text, false);
+            if !digits.any || !behind.is_empty() {
+                return None;
+            }
+            let size = if digits.left > 0 { MOST } else { digits.value };
+            Some((below, size.min(MOST)))
+        }
+        _ => None,
+    }
 }
 
-// x times ten to the power of k, or of -k.
+const POWERS: [f32; 11] = [
+    1.0,
+    10.0,
+    100.0,
+    1000.0,
+    10000.0,
+    100000.0,
+    1000000.0,
+    10000000.0,
+    100000000.0,
+    1000000000.0,
+    10000000000.0,
+];
+
+fn scaled_once(x: f32, power: f32, below: bool) -> f32 {
+    if below { x / power } else { x * power }
+}
+
+// x times ten to the power of k, or of -k: ten powers at a time, and at last the one to ten that are left.
 fn scaled(x: f32, k: u32, below: bool) -> f32 {
-    let mut y = x;
-    let mut rest = k;
-    while rest > 10 {
-        y = scaled_once(y, 10, below);
-        rest -= 10;
-    }
-    scaled_once(y, rest, below)
+    let tens = k.saturating_sub(1) / 10;
+    let most = (0..tens).fold(x, |y, _| scaled_once(y, POWERS[10], below));
+    scaled_once(most, POWERS[(k - tens * 10) as usize], below)
 }
 
-fn total(a: u32, b: u32) -> u32 {
-    if a > 100000 {
-        return 100000;
-    }
-    if b > 100000 {
-        return 100000;
-    }
-    a + b
-}
-
-// The power of ten is up - down.
-fn valued(value: u32, up: u32, down: u32) -> f32 {
-    let x = std::num::nearest_u32_to_f32(value);
-    if up >= down {
-        return scaled(x, up - down, false);
-    }
-    scaled(x, down - up, true)
-}
-
-fn read_decimal(d: Digits, e: Exponent) -> f32 {
-    if e.below {
-        return valued(d.value, d.left, total(d.behind, e.size));
-    }
-    valued(d.value, total(d.left, e.size), d.behind)
-}
-
-// The bits of a decimal number: sign, digits, a point among them, an exponent. Where the digits are below 16,777,216 as one number and the power of ten is
+// The float of a decimal number: sign, digits, a point among them, an exponent. Where the digits are below 16,777,216 as one number and the power of ten is
 // at most ten either way, both are floats and one rounding gives the nearest float. Of longer ones nine digits count, and each further ten of the power
 // rounds once more: the float is a few places off at worst.
-fn decimal_float(word: &[u8]) -> u64 {
-    let d = mantissa(word, sign_at(word, 0));
-    let e = read_exponent(word, d.at);
-    if d.count == 0 {
-        return UNREADABLE;
+fn decimal(word: &[u8]) -> Option<f32> {
+    let (negative, text) = signed(word);
+    let mut digits = Digits::default();
+    let mut rest = digits.read(text, false);
+    if let [b'.', fraction @ ..] = rest {
+        rest = digits.read(fraction, true);
     }
-    if !e.fine {
-        return UNREADABLE;
+    let (below, size) = exponent(rest)?;
+    if !digits.any {
+        return None;
     }
-    let x = read_decimal(d, e);
-    if byte_at(word, 0) == b'-' {
-        return bits_of(-x) as u64;
-    }
-    bits_of(x) as u64
-}
-
-// A float's bits.
-pub fn float(word: &[u8]) -> u64 {
-    if has_prefix(word) {
-        return hexadecimal(word);
-    }
-    if same(word, b"nan") {
-        return NAN_BITS as u64;
-    }
-    if same(word, b"inf") {
-        return 0x7f800000;
-    }
-    if same(word, b"-inf") {
-        return 0xff800000;
-    }
-    decimal_float(word)
+    let (up, down) = if below { (0, size) } else { (size, 0) };
+    let up = digits.left.saturating_add(up);
+    let down = digits.behind.saturating_add(down);
+    let value = nearest_u32_to_f32(digits.value);
+    let x = scaled(value, up.abs_diff(down), up < down);
+    Some(if negative { -x } else { x })
 }

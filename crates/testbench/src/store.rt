@@ -1,249 +1,165 @@
-// The calls on the store of spans. The slices come cut to what is lent.
-use crate::answers::answer;
-use crate::commands;
-use crate::commands::Command;
-use crate::state::State;
-use crate::writer::Out;
-use field::Span;
-use rerecast::{heightfield, pre_filter};
+// The store of spans that is lent to the calls.
+ghost use Rattle.std.specs.Iterator.{at_most};
 
-pub fn short(n: u32) -> u16 {
-    if n < 65536 { n as u16 } else { 65535 }
+use crate::commands::{Damage, Entry};
+use field::{NONE, Span};
+use std::alloc::{AllocError, Global};
+
+// How many slots, and how many compact spans, are lent at first.
+pub const FIRST_LENT: usize = 1024;
+
+const COLUMNS: usize = 16384;
+
+#[derive(Drop)]
+pub struct Store {
+    pub heads: Vec<u32>,
+    // the head of the free chain
+    pub free: u32,
+    pub floors: Vec<u16>,
+    pub ceilings: Vec<u16>,
+    pub areas: Vec<u8>,
+    pub nexts: Vec<u32>,
+    pub marks: Vec<u8>,
+    // how many slots are lent; behind them are more if more were lent since the case began
+    pub lent: usize,
 }
 
-pub fn byte(n: u32) -> u8 {
-    if n < 256 { n as u8 } else { 255 }
-}
-
-pub fn with_free(s: State, free: u32) -> State {
-    let mut t = s;
-    t.free = free;
-    t
-}
-
-pub fn fresh(
-    s: State,
-    c: Command,
-    out: &mut Out,
-    heads: &mut [u32],
-    floors: &mut [u16],
-    ceilings: &mut [u16],
-    areas: &mut [u8],
-    nexts: &mut [u32],
-) -> State {
-    if c.code != commands::FRESH {
-        return s;
+impl Store {
+    pub fn new(alloc: Global) -> Result<Store, AllocError> {
+        let mut store = Store {
+            heads: Vec::new(alloc),
+            free: 0,
+            floors: Vec::new(alloc),
+            ceilings: Vec::new(alloc),
+            areas: Vec::new(alloc),
+            nexts: Vec::new(alloc),
+            marks: Vec::new(alloc),
+            lent: 0,
+        };
+        store.clear()?;
+        Ok(store)
     }
-    let grid = s.grid;
-    let mut free = s.free;
-    let reply = heightfield::fresh(grid, heads, &mut free, floors, ceilings, areas, nexts);
-    answer(out, s.terse, commands::FRESH, reply.map(|()| None));
-    let mut t = with_free(s, free);
-    t.packed = false;
-    t
-}
 
-pub fn add(
-    s: State,
-    c: Command,
-    out: &mut Out,
-    heads: &mut [u32],
-    floors: &mut [u16],
-    ceilings: &mut [u16],
-    areas: &mut [u8],
-    nexts: &mut [u32],
-    marks: &mut [u8],
-) -> State {
-    if c.code != commands::ADD {
-        return s;
+    // All is 0, as when the program starts. Such a store is not sound.
+    pub fn clear(&mut self) -> Result<(), AllocError> {
+        self.heads.clear();
+        self.heads.resize(COLUMNS, 0)?;
+        self.free = 0;
+        self.floors.clear();
+        self.ceilings.clear();
+        self.areas.clear();
+        self.nexts.clear();
+        self.marks.clear();
+        self.lend(FIRST_LENT)
     }
-    let grid = s.grid;
-    let mut free = s.free;
-    let span = Span {
-        floor: short(c.c),
-        ceiling: short(c.d),
-        area: byte(c.e),
-    };
-    let reply = heightfield::add_span(
-        grid,
-        heads,
-        &mut free,
-        floors,
-        ceilings,
-        areas,
-        nexts,
-        marks,
-        c.a,
-        c.b,
-        span,
-        short(c.f),
-    );
-    answer(out, s.terse, commands::ADD, reply.map(|()| None));
-    with_free(s, free)
-}
 
-fn low(
-    s: State,
-    c: Command,
-    out: &mut Out,
-    heads: &[u32],
-    floors: &[u16],
-    ceilings: &[u16],
-    areas: &mut [u8],
-    nexts: &[u32],
-    marks: &mut [u8],
-) {
-    if c.code != commands::LOW {
-        return;
-    }
-    let grid = s.grid;
-    let free = s.free;
-    let reply = pre_filter::filter_low_hanging_walkable_obstacles(
-        grid,
-        heads,
-        &free,
-        floors,
-        ceilings,
-        areas,
-        nexts,
-        marks,
-        short(c.a),
-    );
-    answer(out, s.terse, commands::LOW, reply.map(|()| None));
-}
-
-fn ledges(
-    s: State,
-    c: Command,
-    out: &mut Out,
-    heads: &[u32],
-    floors: &[u16],
-    ceilings: &[u16],
-    areas: &mut [u8],
-    nexts: &[u32],
-    marks: &mut [u8],
-) {
-    if c.code != commands::LEDGES {
-        return;
-    }
-    let grid = s.grid;
-    let free = s.free;
-    let reply = pre_filter::filter_ledge_spans(
-        grid,
-        heads,
-        &free,
-        floors,
-        ceilings,
-        areas,
-        nexts,
-        marks,
-        short(c.a),
-        short(c.b),
-    );
-    answer(out, s.terse, commands::LEDGES, reply.map(|()| None));
-}
-
-fn ceilings_low(
-    s: State,
-    c: Command,
-    out: &mut Out,
-    heads: &[u32],
-    floors: &[u16],
-    ceilings: &[u16],
-    areas: &mut [u8],
-    nexts: &[u32],
-    marks: &mut [u8],
-) {
-    if c.code != commands::CEILINGS {
-        return;
-    }
-    let grid = s.grid;
-    let free = s.free;
-    let reply = pre_filter::filter_walkable_low_height_spans(
-        grid,
-        heads,
-        &free,
-        floors,
-        ceilings,
-        areas,
-        nexts,
-        marks,
-        short(c.a),
-    );
-    answer(out, s.terse, commands::CEILINGS, reply.map(|()| None));
-}
-
-// The filter that the command names, if it names one.
-pub fn filter(
-    s: State,
-    c: Command,
-    out: &mut Out,
-    heads: &[u32],
-    floors: &[u16],
-    ceilings: &[u16],
-    areas: &mut [u8],
-    nexts: &[u32],
-    marks: &mut [u8],
-) {
-    low(s, c, out, heads, floors, ceilings, areas, nexts, marks);
-    ledges(s, c, out, heads, floors, ceilings, areas, nexts, marks);
-    ceilings_low(s, c, out, heads, floors, ceilings, areas, nexts, marks);
-}
-
-// ---- forgetting
-
-fn clear_words(a: &mut [u32], n: usize) {
-    let mut i = 0;
-    while i < n {
-        if i >= a.len() {
-            return;
+    // From here on so many slots are lent. Those that never were are 0.
+    pub fn lend(&mut self, slots: usize) -> Result<(), AllocError> {
+        if slots > self.nexts.len() {
+            self.floors.resize(slots, 0)?;
+            self.ceilings.resize(slots, 0)?;
+            self.areas.resize(slots, 0)?;
+            self.nexts.resize(slots, 0)?;
+            self.marks.resize(slots, 0)?;
         }
-        a[i] = 0;
-        i += 1;
+        self.lent = slots;
+        Ok(())
     }
-}
 
-fn clear_heights(a: &mut [u16], n: usize) {
-    let mut i = 0;
-    while i < n {
-        if i >= a.len() {
-            return;
+    // The lent slots.
+    pub fn slots(&self) -> Slots<'_> {
+        Slots {
+            floors: front(&self.floors, self.lent),
+            ceilings: front(&self.ceilings, self.lent),
+            areas: front(&self.areas, self.lent),
+            nexts: front(&self.nexts, self.lent),
         }
-        a[i] = 0;
-        i += 1;
     }
-}
 
-fn clear_bytes(a: &mut [u8], n: usize) {
-    let mut i = 0;
-    while i < n {
-        if i >= a.len() {
-            return;
+    // The heads of the first columns.
+    pub fn heads(&self, columns: usize) -> &[u32] {
+        front(&self.heads, columns)
+    }
+
+    // Puts a number where it is said, and answers whether a slice has such a place.
+    pub fn put(&mut self, damage: Damage, columns: usize) -> bool {
+        let lent = self.lent;
+        match damage {
+            Damage::Head(head) => put(front_mut(&mut self.heads, columns), head),
+            Damage::Free(slot) => {
+                self.free = slot.value;
+                true
+            }
+            Damage::Floor(floor) => put(front_mut(&mut self.floors, lent), floor),
+            Damage::Ceiling(ceiling) => put(front_mut(&mut self.ceilings, lent), ceiling),
+            Damage::Area(area) => put(front_mut(&mut self.areas, lent), area),
+            Damage::Next(slot) => put(front_mut(&mut self.nexts, lent), slot),
+            Damage::Mark(mark) => put(front_mut(&mut self.marks, lent), mark),
         }
-        a[i] = 0;
-        i += 1;
     }
 }
 
-// A new case: all that may have been written to since the last is 0 again, as when the program starts. Such a store is not sound. `s` is the state before.
-pub fn forget(
-    s: State,
-    c: Command,
-    heads: &mut [u32],
-    floors: &mut [u16],
-    ceilings: &mut [u16],
-    areas: &mut [u8],
-    nexts: &mut [u32],
-    marks: &mut [u8],
-) {
-    if c.code != commands::CASE {
-        return;
+// So many of a list's first entries, or all that it has.
+pub fn front<T>(all: &[T], count: usize) -> &[T] {
+    &all[..count.min(all.len())]
+}
+
+// The same, to be written.
+pub fn front_mut<T>(all: &mut [T], count: usize) -> &mut [T] {
+    let end = count.min(all.len());
+    &mut all[..end]
+}
+
+fn put<T: Copy>(slice: &mut [T], entry: Entry<T>) -> bool {
+    let has_place = entry.index < slice.len();
+    if has_place {
+        slice[entry.index] = entry.value;
     }
-    let slots = s.most_slots;
-    clear_words(heads, s.most_columns);
-    clear_heights(floors, slots);
-    clear_heights(ceilings, slots);
-    clear_bytes(areas, slots);
-    clear_words(nexts, slots);
-    clear_bytes(marks, slots);
+    has_place
+}
+
+#[derive(Clone, Copy)]
+pub struct Slots<'a> {
+    pub floors: &'a [u16],
+    pub ceilings: &'a [u16],
+    pub areas: &'a [u8],
+    pub nexts: &'a [u32],
+}
+
+impl<'a> Slots<'a> {
+    // The spans of the chain that begins with a slot, at most `left` of them. So a chain that runs in a circle comes to an end.
+    pub fn chain(self, slot: u32, left: usize) -> Chain<'a> {
+        Chain {
+            slots: self,
+            slot,
+            left,
+        }
+    }
+}
+
+#[derive(Clone, Copy)]
+pub struct Chain<'a> {
+    slots: Slots<'a>,
+    slot: u32,
+    pub left: usize,
+}
+
+impl Iterator for Chain<'_> {
+    type Item = Span;
+
+    ghost remaining = { λ s. at_most s.left };
+
+    fn next(&mut self) -> Option<Span> {
+        if self.left == 0 {
+            return None;
+        }
+        let i = self.slot as usize;
+        self.slot = *self.slots.nexts.get(i)?;
+        self.left -= 1;
+        Some(Span {
+            floor: *self.slots.floors.get(i)?,
+            ceiling: *self.slots.ceilings.get(i)?,
+            area: *self.slots.areas.get(i)?,
+        })
+    }
 }

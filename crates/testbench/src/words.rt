@@ -1,71 +1,45 @@
 // The words of a line: what stands between spaces, up to a `#`.
-
-// A word's place in its line; where both are the same, there is none.
-#[derive(Clone, Copy)]
-pub struct Word {
-    pub from: usize,
-    pub to: usize,
-}
+ghost use Rattle.std.specs.Prelude.{◌≤◌, length};
+ghost use Rattle.std.specs.Iterator.{at_most};
 
 fn is_space(b: u8) -> bool {
-    b == b' ' || b == b'\t' || b == b'\r'
+    matches!(b, b' ' | b'\t' | b'\r')
 }
 
-// The first place at or after `from` that is no space, or the line's end.
-fn skip(line: &[u8], from: usize) -> usize {
-    let mut i = from;
-    while i < line.len() {
-        if !is_space(line[i]) {
+// The words that are still to come.
+#[derive(Clone, Copy, Default)]
+pub struct Words<'a>(&'a [u8]);
+
+// Where the first byte of a kind stands, or the end.
+pub fn first<F: Fn(u8) -> bool>(bytes: &[u8], is_it: F) -> usize
+    requires { F.IsAlwaysCallable is_it }
+    ensures { result ≤ length bytes.now }
+{
+    for (i, b) in bytes.iter().enumerate() {
+        if is_it(*b) {
             return i;
         }
-        i += 1;
     }
-    i
+    bytes.len()
 }
 
-// The first place at or after `from` that is a space, or the line's end.
-fn end_of(line: &[u8], from: usize) -> usize {
-    let mut i = from;
-    while i < line.len() {
-        if is_space(line[i]) {
-            return i;
-        }
-        i += 1;
-    }
-    i
-}
-
-// The first word at or after `from`.
-pub fn next(line: &[u8], from: usize) -> Word {
-    let start = skip(line, from);
-    Word {
-        from: start,
-        to: end_of(line, start),
+impl<'a> Words<'a> {
+    // Those of a line, without its comment.
+    pub fn of(line: &'a [u8]) -> Words<'a> {
+        Words(&line[..first(line, |b| b == b'#')])
     }
 }
 
-// A part of a text; nothing where there is no such part.
-pub fn part(text: &[u8], from: usize, to: usize) -> &[u8] {
-    if from <= to {
-        if to <= text.len() {
-            return &text[from..to];
-        }
-    }
-    &text[..0]
-}
+impl<'a> Iterator for Words<'a> {
+    type Item = &'a [u8];
 
-// How much of a line stands before its comment.
-pub fn before_comment(line: &[u8]) -> usize {
-    let mut i = 0;
-    while i < line.len() {
-        if line[i] == b'#' {
-            return i;
-        }
-        i += 1;
-    }
-    i
-}
+    ghost remaining = { λ s. at_most (length s.0.now) };
 
-pub fn same(a: &[u8], b: &[u8]) -> bool {
-    a == b
+    fn next(&mut self) -> Option<&'a [u8]> {
+        let rest = &self.0[first(self.0, |b| !is_space(b))..];
+        let (_first, others) = rest.split_first()?;
+        let (word, rest) = rest.split_at(1 + first(others, is_space));
+        self.0 = rest;
+        Some(word)
+    }
 }

@@ -1,5 +1,0 @@
--- `look` ends.
-use Rattle.testbench.proofs.map.look.Given as goal
-
-abbrev pub decreases-loop-rest : goal.decreases-loop-rest
-decreases-loop-rest l = l.rest

@@ -1,6 +1,0 @@
--- `range_of` ends.
-use Rattle.std.proofs.Common.{◌-◌}
-use Rattle.testbench.proofs.map.range_of.Given as goal
-
-abbrev pub decreases-loop-i : goal.decreases-loop-i
-decreases-loop-i l = l.end - l.i

@@ -1,6 +1,0 @@
--- `more_digits` ends.
-use Rattle.std.proofs.Common.{◌-◌, length}
-use Rattle.testbench.proofs.numbers.more_digits.Given as goal
-
-abbrev pub decreases-loop-i : goal.decreases-loop-i
-decreases-loop-i l = length l.word - l.i

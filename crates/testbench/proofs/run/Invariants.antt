@@ -1,5 +1,0 @@
--- `run` ends.
-use Rattle.testbench.proofs.run.Given as goal
-
-abbrev pub decreases-loop-turns : goal.decreases-loop-turns
-decreases-loop-turns l = l.turns

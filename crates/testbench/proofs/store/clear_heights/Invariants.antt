@@ -1,6 +1,0 @@
--- `clear_heights` ends.
-use Rattle.std.proofs.Common.{◌-◌}
-use Rattle.testbench.proofs.store.clear_heights.Given as goal
-
-abbrev pub decreases-loop-i : goal.decreases-loop-i
-decreases-loop-i l = l.n - l.i

@@ -1,6 +1,0 @@
--- `clear_words` ends.
-use Rattle.std.proofs.Common.{◌-◌}
-use Rattle.testbench.proofs.store.clear_words.Given as goal
-
-abbrev pub decreases-loop-i : goal.decreases-loop-i
-decreases-loop-i l = l.n - l.i
