@@ -143,6 +143,7 @@ pub(crate) fn take_mesh(
 }
 
 // Puts the triangles of a mesh into the field, each with its area, up to the first that stops.
+// Lent slice by slice, as C lends it: see src/lent.rt.
 pub fn rasterize_triangles(
     grid: Grid,
     heads: &mut [u32],
@@ -185,6 +186,7 @@ pub fn rasterize_triangles(
 }
 
 // Puts one triangle into the field: a mesh of one.
+// Lent slice by slice, as C lends it: see src/lent.rt.
 pub fn rasterize_triangle(
     grid: Grid,
     heads: &mut [u32],
