@@ -1,55 +1,62 @@
 -- `clip::cut::go_round` meets its contract.
 use mathlib.Core.Path.{◌≡◌, refl, sym, ap, ◌∙◌}
 use native.Mathlib.Omega.{arith}
-use lib.Ieee.{Float, binary32, sub}
+use lib.Ieee.{Float, binary32, nan, sub}
 use Rattle.grid.specs.declared.Corner.{Corner}
-use Rattle.clip.specs.Cut.{distance}
-use Rattle.clip.specs.Arrays.{Divided, arrays, counts_of, divided}
-use Rattle.clip.proofs.Turns.{still, still-all, still-none, still-turn, grown-two}
-use Rattle.clip.proofs.Rounds.{dividing}
+use Rattle.clip.specs.Cut.{distance, to_first, to_second, onward, gives_first, gives_second}
+use Rattle.clip.proofs.Rounds.{none-last, around-last, around-none, onward-all, turn-next, last-next}
 use Rattle.clip.proofs.cut.go_round.Goals as goal
 
-pub loop-i-init : goal.loop-i-init
-loop-i-init c = (omega arith, omega arith, omega arith, ap (λ (x : Float). sub binary32 c.args.offset x) c.coordinate.ensures, refl)
-
-pub get_vertex-a-requires : goal.get_vertex-a-requires
-get_vertex-a-requires c = omega arith
-
-pub turn-p-requires : goal.turn-p-requires
-turn-p-requires c =
-    let v = c.loop-i in
-    (omega (arith, c.loop-i-test.true, v.invariant.1, c.requires.2), omega (arith, c.loop-i-test.true, v.invariant.2, c.requires.0.writes, c.requires.2))
-
-pub overflow_add-i : goal.overflow_add-i
-overflow_add-i c = record { fits = omega (arith, c.loop-i-test.true, c.requires.2) }
-
-pub loop-i-smaller : goal.loop-i-smaller
-loop-i-smaller c = omega (arith, c.loop-i-test.true)
-
-pub loop-i-preserved : goal.loop-i-preserved
-loop-i-preserved c =
-    let v = c.loop-i in
+pub returns-in_default-clause-first : goal.returns-in_default-clause-first
+returns-in_default-clause-first g c =
     let a = c.args in
-    let vertex = c.get_vertex-a.result in
-    let da : sub binary32 a.offset c.coordinate-in-loop-i.result ≡ distance a.axis a.offset vertex = ap (λ (x : Float). sub binary32 a.offset x) c.coordinate-in-loop-i.ensures in
-    let l = c.turn-p.new in
-    let δ : Divided = divided v.p (arrays v.xs v.ys v.zs) (arrays v.rx v.ry v.rz) in
-    let δ' : Divided = divided c.turn-p.result (arrays l.xs l.ys l.zs) (arrays l.rx l.ry l.rz) in
-    let few = grown-two (dividing a.to) v.i δ δ' v.b vertex v.db _ c.turn-p.ensures v.invariant.1 v.invariant.2 in (
-      omega (arith, c.loop-i-test.true),
-      few.0,
-      few.1,
-      da,
-      still-turn (dividing a.to) a.axis a.offset a.from a.n v.i v.b vertex v.db _ δ δ' c.requires.0 c.loop-i-test.true c.requires.2 v.invariant.2 c.get_vertex-a.ensures v.invariant.3 da c.turn-p.ensures
-          ∙ v.invariant.4,
-    )
+    c.clear.ensures.empty ∙ ap (λ vs. g.F.Part.made a.first.now vs) (sym (around-none (gives_first a.axis a.offset) a.vs.now (none-last a.vs.now c.in_default.ensures.value)))
 
-pub returns : goal.returns
-returns c =
-    let v = c.loop-i in
+pub returns-in_default-clause-second : goal.returns-in_default-clause-second
+returns-in_default-clause-second g c =
     let a = c.args in
-    let δ = divided (counts_of 0 0) (arrays a.xs.now a.ys.now a.zs.now) (arrays a.rx.now a.ry.now a.rz.now) in
-    sym (still-none (dividing a.to) a.axis a.offset a.from a.n v.i v.b _ c.loop-i-test.false)
-    ∙ v.invariant.4
-    ∙ ap (λ (b : Corner). still (dividing a.to) a.axis a.offset a.from a.n 0 b δ) c.get_vertex-b.ensures
-    ∙ still-all (dividing a.to) a.axis a.offset a.from a.n δ c.requires.1
+    c.clear-2.ensures.empty ∙ ap (λ vs. g.S.Part.made a.second.now vs) (sym (around-none (gives_second a.axis a.offset) a.vs.now (none-last a.vs.now c.in_default.ensures.value)))
+
+pub loop-a-init : goal.loop-a-init
+unfolding onward
+loop-a-init g c = record {
+  few_first = omega (arith, c.clear.ensures.none);
+  few_second = omega (arith, c.clear-2.ensures.none);
+  before = refl;
+  offset_of = ap (λ (x : Float). sub binary32 c.args.offset x) c.coordinate.ensures;
+  first = c.clear.ensures.empty;
+  second = c.clear-2.ensures.empty;
+}
+
+pub loop-a-preserved : goal.loop-a-preserved
+loop-a-preserved g c =
+    let v = c.loop-a in
+    let a = c.args in
+    let inside = c.loop-a-test.true in
+    let b = c.in-Some.last.now in
+    let o : Corner = record { x = nan; y = nan; z = nan } in
+    let da = ap (λ (x : Float). sub binary32 a.offset x) c.coordinate-in-loop-a.ensures in
+    record {
+      few_first = omega (arith, c.turn.ensures.two_more.0, v.invariant.few_first);
+      few_second = omega (arith, c.turn.ensures.two_more.1, v.invariant.few_second);
+      before = last-next b o a.vs.now v.a-index inside;
+      offset_of = da;
+      first = c.turn.ensures.first _ _ v.invariant.first ∙ ap (λ vs. g.F.Part.made a.first.now vs) (turn-next a.axis a.offset to_first b o a.vs.now v.a-index inside v.b v.db _ v.invariant.before v.invariant.offset_of da);
+      second = c.turn.ensures.second _ _ v.invariant.second ∙ ap (λ vs. g.S.Part.made a.second.now vs) (turn-next a.axis a.offset to_second b o a.vs.now v.a-index inside v.b v.db _ v.invariant.before v.invariant.offset_of da);
+    }
+
+pub returns-clause-first : goal.returns-clause-first
+returns-clause-first g c =
+    let v = c.loop-a in
+    let a = c.args in
+    v.invariant.first
+    ∙ ap (λ vs. g.F.Part.made a.first.now vs)
+    (onward-all (gives_first a.axis a.offset) c.in-Some.last.now a.vs.now v.a-index v.auto.a-index-end c.loop-a-test.false ∙ sym (around-last (gives_first a.axis a.offset) _ a.vs.now c.in-Some.ensures.value))
+
+pub returns-clause-second : goal.returns-clause-second
+returns-clause-second g c =
+    let v = c.loop-a in
+    let a = c.args in
+    v.invariant.second
+    ∙ ap (λ vs. g.S.Part.made a.second.now vs)
+    (onward-all (gives_second a.axis a.offset) c.in-Some.last.now a.vs.now v.a-index v.auto.a-index-end c.loop-a-test.false ∙ sym (around-last (gives_second a.axis a.offset) _ a.vs.now c.in-Some.ensures.value))

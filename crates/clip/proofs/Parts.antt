@@ -1,0 +1,83 @@
+-- Of what a part keeps: one vertex more of a part that is written down, and of one that keeps the heights alone.
+use mathlib.Core.Path.{◌≡◌, refl, sym, ap, ◌∙◌}
+use mathlib.Core.List.{List, [], ◌∷◌, ◌++◌, map, map-append, foldl, foldl-append}
+use Prim.Native.Nat.{ℕ, zero, suc, ◌+◌, ◌≤◌, ◌<◌}
+use native.Mathlib.Nat.{add-zero, zero-add, add-suc, suc-add}
+use native.Mathlib.Numerals.{add-one}
+use native.Mathlib.Omega.{arith}
+use borrow.Author.Tests.{leb-true}
+use mathlib.Core.Bool.{cond}
+use lib.Ieee.{Float}
+use lib.ListN.{length, length-append, set, take, drop, get_or}
+use lib.Seq.{sets, sets-eq, take-suc, take-append_seam, length-take-le}
+use Rattle.grid.specs.declared.Corner.{Corner}
+use Rattle.clip.specs.declared.cell.Piece.{Piece}
+use Rattle.clip.specs.declared.poly.Polygon.{Polygon}
+use Rattle.clip.specs.declared.cut.Axis.{Axis}
+use Rattle.clip.specs.Cut.{y_of, fitting, first_of, second_of}
+use Rattle.clip.proofs.Rounds.{Fits}
+use Rattle.clip.specs.Cell.{piece_of}
+use Rattle.clip.specs.Poly.{held, polygon_of}
+use Rattle.clip.specs.Slices.{together}
+use Rattle.ops.specs.Order.{lesser_of, greater_of}
+
+-- ---- a run of stores in two steps
+pub sets-append : {A : Type 0} (l : List A) (i : ℕ) (us vs : List A) → sets l i (us ++ vs) ≡ sets (sets l i us) (i + length us) vs
+sets-append l i [] vs = rw (add-zero i)
+sets-append l i (u ∷ us) vs = rw (add-suc i (length us), ← suc-add i (length us)) (sets-append (set l i u) (suc i) us vs)
+
+pub polygon-one : (p s : Polygon) (vs : List Corner) (v : Corner) → p ≡ polygon_of s vs → record { at = set p.at p.n v; n = p.n + 1 } ≡ polygon_of s (vs ++ v ∷ [])
+polygon-one p s vs v h =
+    let n : length vs + 1 ≡ length (vs ++ v ∷ []) = omega (arith, length-append vs (v ∷ [])) in
+    let at : set (sets s.at 0 vs) (length vs) v ≡ sets s.at 0 (vs ++ v ∷ []) = rw (sets-append s.at 0 vs (v ∷ []), zero-add (length vs)) in
+    rw (h, at, n)
+
+-- what was written from the first place on is read back
+pub held-made : (p : Polygon) (vs : List Corner) → length vs ≤ length p.at → held (polygon_of p vs) ≡ vs
+held-made p vs h = rw (sets-eq vs p.at 0 (omega (arith, h))) (take-append_seam vs (drop (0 + length vs) p.at))
+
+-- of a cut that is no error: both parts, and what is read back of one that is written down
+module _ {axis : Axis} {offset : Float} {vs : List Corner} (fits : Fits axis offset vs) where
+  pub part-made : {P : Type 0} (made old : P) {new : P} → new ≡ cond (fitting vs) made old → new ≡ made
+  part-made made old e = e ∙ rw fits.polygon_fits
+
+  pub first-held : (old : Polygon) {new : Polygon} → length old.at ≡ 14 → new ≡ cond (fitting vs) (polygon_of old (first_of axis offset vs)) old → held new ≡ first_of axis offset vs
+  first-held old room e =
+      rw (part-made (polygon_of old (first_of axis offset vs)) old e) (held-made old (first_of axis offset vs) (omega (arith, room, leb-true (length (first_of axis offset vs)) 7 fits.first_fits)))
+
+  pub second-held : (old : Polygon) {new : Polygon} → length old.at ≡ 14 → new ≡ cond (fitting vs) (polygon_of old (second_of axis offset vs)) old → held new ≡ second_of axis offset vs
+  second-held old room e =
+      rw (part-made (polygon_of old (second_of axis offset vs)) old e) (held-made old (second_of axis offset vs) (omega (arith, room, leb-true (length (second_of axis offset vs)) 7 fits.second_fits)))
+
+  pub first-few : (old : Polygon) {new : Polygon} → new ≡ cond (fitting vs) (polygon_of old (first_of axis offset vs)) old → new.n ≤ 7
+  first-few old e = rw (part-made (polygon_of old (first_of axis offset vs)) old e) (leb-true (length (first_of axis offset vs)) 7 fits.first_fits)
+
+  pub second-few : (old : Polygon) {new : Polygon} → new ≡ cond (fitting vs) (polygon_of old (second_of axis offset vs)) old → new.n ≤ 7
+  second-few old e = rw (part-made (polygon_of old (second_of axis offset vs)) old e) (leb-true (length (second_of axis offset vs)) 7 fits.second_fits)
+
+-- one more of a list's elements is stored
+pub store-next : (l us : List Corner) (o : Corner) (i : ℕ) → i < length us → set (sets l 0 (take i us)) i (get_or us i o) ≡ sets l 0 (take (i + 1) us)
+store-next l us o i h =
+    let n : length (take i us) ≡ i = length-take-le i us (omega arith) in
+    rw (add-one i, take-suc us i o h, sets-append l 0 (take i us) (get_or us i o ∷ []), n, zero-add i)
+
+-- ---- the heights
+together-one : (choice : Float → Float → Float) (y : Float) (ys : List Float) (z : Float) → together choice (y ∷ ys ++ z ∷ []) ≡ choice (together choice (y ∷ ys)) z
+unfolding together
+together-one choice y ys z = foldl-append choice y ys (z ∷ [])
+
+pub piece-first : (p : Piece) (vs : List Corner) (v : Corner) → p.n ≡ 0 → p ≡ piece_of vs → record { n = p.n + 1; low = v.y; high = v.y } ≡ piece_of (vs ++ v ∷ [])
+unfolding together
+piece-first p [] v z h = rw z
+piece-first p (w ∷ vs) v z h =
+    let e : p.n ≡ suc (length vs) = ap (λ (q : Piece). q.n) h in
+    absurd (omega (arith, e))
+
+pub piece-more : (p : Piece) (vs : List Corner) (v : Corner) (low high : Float) → 0 < p.n → p ≡ piece_of vs → low ≡ lesser_of p.low v.y → high ≡ greater_of p.high v.y
+    → record { n = p.n + 1; low = low; high = high } ≡ piece_of (vs ++ v ∷ [])
+piece-more p [] v low high s h l g =
+    let e : p.n ≡ 0 = ap (λ (q : Piece). q.n) h in
+    absurd (omega (arith, e))
+piece-more p (w ∷ vs) v low high s h l g =
+    let n : length (w ∷ vs) + 1 ≡ length (w ∷ vs ++ v ∷ []) = omega (arith, length-append (w ∷ vs) (v ∷ [])) in
+    rw (l, g, h, n, map-append y_of vs (v ∷ []), together-one lesser_of w.y (map y_of vs) v.y, together-one greater_of w.y (map y_of vs) v.y)
