@@ -16,8 +16,8 @@ use Rattle.clip.specs.declared.poly.Polygon.{Polygon}
 use Rattle.clip.specs.declared.cut.Axis.{Axis}
 use Rattle.clip.specs.Cut.{y_of, fitting, first_of, second_of}
 use Rattle.clip.proofs.Rounds.{Fits}
-use Rattle.clip.specs.Cell.{piece_of}
-use Rattle.clip.specs.Poly.{held, polygon_of}
+use Rattle.clip.specs.Cell.{piece_of, piece_holding}
+use Rattle.clip.specs.Poly.{held, polygon_holding, polygon_of}
 use Rattle.clip.specs.Slices.{together}
 use Rattle.ops.specs.Order.{lesser_of, greater_of}
 
@@ -26,11 +26,10 @@ pub sets-append : {A : Type 0} (l : List A) (i : ℕ) (us vs : List A) → sets 
 sets-append l i [] vs = rw (add-zero i)
 sets-append l i (u ∷ us) vs = rw (add-suc i (length us), ← suc-add i (length us)) (sets-append (set l i u) (suc i) us vs)
 
-pub polygon-one : (p s : Polygon) (vs : List Corner) (v : Corner) → p ≡ polygon_of s vs → record { at = set p.at p.n v; n = p.n + 1 } ≡ polygon_of s (vs ++ v ∷ [])
-polygon-one p s vs v h =
-    let n : length vs + 1 ≡ length (vs ++ v ∷ []) = omega (arith, length-append vs (v ∷ [])) in
-    let at : set (sets s.at 0 vs) (length vs) v ≡ sets s.at 0 (vs ++ v ∷ []) = rw (sets-append s.at 0 vs (v ∷ []), zero-add (length vs)) in
-    rw (h, at, n)
+pub polygon-put : (p s : Polygon) (vs : List Corner) (at : ℕ) (v : Corner) → length vs ≡ at → p ≡ polygon_holding s vs → record { at = set p.at at v; n = p.n } ≡ polygon_holding s (vs ++ v ∷ [])
+polygon-put p s vs at v e h =
+    let to : set (sets s.at 0 vs) (length vs) v ≡ sets s.at 0 (vs ++ v ∷ []) = rw (sets-append s.at 0 vs (v ∷ []), zero-add (length vs)) in
+    rw (h, ← e, to)
 
 -- what was written from the first place on is read back
 pub held-made : (p : Polygon) (vs : List Corner) → length vs ≤ length p.at → held (polygon_of p vs) ≡ vs
@@ -66,18 +65,20 @@ together-one : (choice : Float → Float → Float) (y : Float) (ys : List Float
 unfolding together
 together-one choice y ys z = foldl-append choice y ys (z ∷ [])
 
-pub piece-first : (p : Piece) (vs : List Corner) (v : Corner) → p.n ≡ 0 → p ≡ piece_of vs → record { n = p.n + 1; low = v.y; high = v.y } ≡ piece_of (vs ++ v ∷ [])
-unfolding together
-piece-first p [] v z h = rw z
-piece-first p (w ∷ vs) v z h =
-    let e : p.n ≡ suc (length vs) = ap (λ (q : Piece). q.n) h in
-    absurd (omega (arith, e))
+module _ (p s : Piece) (vs : List Corner) (at : ℕ) (many : length vs ≡ at) (held : p ≡ piece_holding s vs) where
+  pub piece-first : (v : Corner) → at ≡ 0 → record { n = p.n; low = v.y; high = v.y } ≡ piece_holding s (vs ++ v ∷ [])
+  unfolding together
+  piece-first v z = go vs (omega (arith, many)) held
+    where
+      go : (us : List Corner) → length us ≡ 0 → p ≡ piece_holding s us → record { n = p.n; low = v.y; high = v.y } ≡ piece_holding s (us ++ v ∷ [])
+      go [] e h = rw h
+      go (u ∷ us) e h = absurd (omega (arith, e))
 
-pub piece-more : (p : Piece) (vs : List Corner) (v : Corner) (low high : Float) → 0 < p.n → p ≡ piece_of vs → low ≡ lesser_of p.low v.y → high ≡ greater_of p.high v.y
-    → record { n = p.n + 1; low = low; high = high } ≡ piece_of (vs ++ v ∷ [])
-piece-more p [] v low high s h l g =
-    let e : p.n ≡ 0 = ap (λ (q : Piece). q.n) h in
-    absurd (omega (arith, e))
-piece-more p (w ∷ vs) v low high s h l g =
-    let n : length (w ∷ vs) + 1 ≡ length (w ∷ vs ++ v ∷ []) = omega (arith, length-append (w ∷ vs) (v ∷ [])) in
-    rw (l, g, h, n, map-append y_of vs (v ∷ []), together-one lesser_of w.y (map y_of vs) v.y, together-one greater_of w.y (map y_of vs) v.y)
+  pub piece-more : (v : Corner) (low high : Float) → 0 < at → low ≡ lesser_of p.low v.y → high ≡ greater_of p.high v.y
+      → record { n = p.n; low = low; high = high } ≡ piece_holding s (vs ++ v ∷ [])
+  piece-more v low high some l g = go vs (omega (arith, many)) held
+    where
+      go : (us : List Corner) → 0 < length us → p ≡ piece_holding s us → record { n = p.n; low = low; high = high } ≡ piece_holding s (us ++ v ∷ [])
+      go [] e h = absurd (omega (arith, e))
+      go (u ∷ us) e h =
+          rw (l, g, h, map-append y_of us (v ∷ []), together-one lesser_of u.y (map y_of us) v.y, together-one greater_of u.y (map y_of us) v.y)

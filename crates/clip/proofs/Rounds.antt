@@ -5,7 +5,7 @@ use mathlib.Core.List.{List, [], ◌∷◌, ◌++◌, append_assoc, append-nil}
 use Prim.Native.Nat.{ℕ, zero, suc, ◌+◌, ◌-◌, ◌≤◌, ◌<◌}
 use native.Mathlib.Numerals.{add-one}
 use native.Mathlib.Omega.{arith}
-use lib.Ieee.{Float}
+use lib.Ieee.{Float, le, lt}
 use lib.ListN.{length, take, get_or}
 use lib.Seq.{take-suc, take-length}
 use borrow.Author.Tests.{le-leb, lt-leb}
@@ -15,10 +15,25 @@ use Rattle.std.proofs.lemmas.Option.{slice_get-get_or}
 use Rattle.grid.specs.declared.Corner.{Corner}
 use Rattle.clip.specs.declared.cut.Axis.{Axis}
 use Rattle.clip.specs.declared.cut.EighthVertex.{EighthVertex}
-use Rattle.clip.specs.Cut.{distance, onward, last_of, around, fitting, first_of, second_of, cut_of, slice_cut, verdict_of, Cut, parts, eighth}
+use Rattle.clip.specs.Cut.{nought, agree, crossing_of, joining, to_first, to_second, distance, onward, last_of, around, fitting, first_of, second_of, cut_of, slice_cut, verdict_of, Cut, parts, eighth}
 
 pub append-two : {A : Type 0} (vs : List A) (c : A) (js : List A) → (vs ++ c ∷ []) ++ js ≡ vs ++ c ∷ js
 append-two vs c js = append_assoc vs (c ∷ []) js
+
+-- ---- a vertex gives at most two
+at_most_two : (p q r : Bool) (c a : Corner) → length (cond p (joining q a) (c ∷ joining r a)) ≤ 2
+at_most_two true true r c a = omega arith
+at_most_two true false r c a = omega arith
+at_most_two false q true c a = omega arith
+at_most_two false q false c a = omega arith
+
+pub first_two : (b a : Corner) (db da : Float) → length (to_first b a db da) ≤ 2
+unfolding to_first
+first_two b a db da = at_most_two (agree db da) (le nought da) (lt nought da) (crossing_of b a db da) a
+
+pub second-two : (b a : Corner) (db da : Float) → length (to_second b a db da) ≤ 2
+unfolding to_second
+second-two b a db da = at_most_two (agree db da) (le da nought) (lt da nought) (crossing_of b a db da) a
 
 -- ---- the last vertex
 pub none-last : (vs : List Corner) → None ≡ slice_get vs (length vs - 1) → vs ≡ []

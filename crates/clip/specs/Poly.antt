@@ -46,5 +46,9 @@ held p = take p.n p.at
 abbrev pub polygon_of : Polygon → List Corner → Polygon
 polygon_of p vs = record { at = sets p.at 0 vs; n = length vs }
 
-pub polygon_counts : (p : Polygon) (vs : List Corner) → (polygon_of p vs).n ≡ length vs
-polygon_counts p vs = refl
+-- until it has all its vertices, it still has as many as it had
+abbrev pub polygon_holding : Polygon → List Corner → Polygon
+polygon_holding p vs = record { at = sets p.at 0 vs; n = p.n }
+
+pub polygon_none : (p : Polygon) → p ≡ polygon_holding p []
+polygon_none p = refl

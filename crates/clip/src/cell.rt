@@ -26,30 +26,28 @@ impl Piece {
 }
 
 impl Part for Piece {
-    ghost use Rattle.clip.specs.Cell.{piece_of, piece_counts};
+    ghost use Rattle.clip.specs.Cell.{piece_holding, piece_of, piece_none};
 
-    ghost count = { λ p. p.n };
-
+    ghost holding = { piece_holding };
     ghost made = { λ p vs. piece_of vs };
 
-    fn clear(&mut self) {
-        *self = Piece::none();
-    }
-
-    fn count(&self) -> usize {
-        self.n
-    }
-
-    fn take(&mut self, v: Corner) {
-        if self.n == 0 {
+    fn put(&mut self, at: usize, v: Corner) {
+        if at == 0 {
             self.low = v.y;
             self.high = v.y;
         } else {
             self.low = ops::lesser(self.low, v.y);
             self.high = ops::greater(self.high, v.y);
         }
-        self.n += 1;
     }
 
-    ghost counts = { λ p vs. piece_counts vs };
+    fn end(&mut self, n: usize) {
+        if n == 0 {
+            *self = Piece::none();
+        } else {
+            self.n = n;
+        }
+    }
+
+    ghost holding_none = { piece_none };
 }

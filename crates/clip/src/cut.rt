@@ -15,29 +15,29 @@ pub enum Axis {
 #[derive(Clone, Copy)]
 pub struct EighthVertex;
 
-// A part of a cut, which takes its vertices one after another. What it keeps of them is its own affair: `made` says what that is,
-// of vertices that a part with anything else in it was given from its start on.
-pub trait Part {
-    ghost count: { Self → ℕ };
+// How many vertices each part of a cut has.
+#[derive(Clone, Copy)]
+struct Counts {
+    first: usize,
+    second: usize,
+}
 
+// A part of a cut, which is given its vertices one after another, and at last how many there were. What it keeps of them is its own affair:
+// `made` says what it then is, whatever it was before, and `holding` what it is until then.
+pub trait Part {
+    ghost holding: { Self → List Corner → Self };
     ghost made: { Self → List Corner → Self };
 
-    // Begins anew.
-    fn clear(&mut self)
-        ensures none { count self.new ≡ 0 }
-        ensures empty { self.new ≡ made self.old [] };
+    // The vertex v, after `at` others.
+    fn put(&mut self, at: usize, v: Corner)
+        requires { at < 14 }
+        ensures { (s : Self) (vs : List Corner) → length vs ≡ at → self.old ≡ holding s vs → self.new ≡ holding s (vs ++ v ∷ []) };
 
-    // How many vertices it was given.
-    fn count(&self) -> usize
-        ensures { result ≡ count self.now };
+    // There were n.
+    fn end(&mut self, n: usize)
+        ensures { (s : Self) (vs : List Corner) → length vs ≡ n → self.old ≡ holding s vs → self.new ≡ made s vs };
 
-    fn take(&mut self, v: Corner)
-        requires { count self.old < 14 }
-        ensures one_more { count self.new ≡ count self.old + 1 }
-        ensures last { (s : Self) (vs : List Corner) → self.old ≡ made s vs → self.new ≡ made s (vs ++ v ∷ []) };
-
-    // It counts the vertices that it was given.
-    ghost counts: { (s : Self) (vs : List Corner) → count (made s vs) ≡ length vs };
+    ghost holding_none: { (s : Self) → s ≡ holding s [] };
 }
 
 fn coordinate(v: Corner, axis: Axis) -> f32
@@ -61,55 +61,92 @@ fn crossing(b: Corner, a: Corner, db: f32, da: f32) -> Corner
     }
 }
 
-// The vertex v, where it joins.
-fn take_if<P: Part>(part: &mut P, v: Corner, joins: bool)
-    requires { P.count part.old < 14 }
-    ensures one_more { P.count part.new ≤ P.count part.old + 1 }
-    ensures last { (s : P) (vs : List Corner) → part.old ≡ P.made s vs → part.new ≡ P.made s (vs ++ joining joins v) }
+// The vertex v, where it joins; how many vertices the part then has.
+fn put_if<P: Part>(part: &mut P, at: usize, v: Corner, joins: bool) -> usize
+    requires { at < 14 }
+    ensures count { result ≡ at + length (joining joins v) }
+    ensures part { (s : P) (vs : List Corner) → length vs ≡ at → part.old ≡ P.holding s vs → part.new ≡ P.holding s (vs ++ joining joins v) }
 {
     if joins {
-        part.take(v);
+        part.put(at, v);
+        return at + 1;
+    }
+    at
+}
+
+// The vertex v for the parts that the two flags name.
+fn join<F: Part, S: Part>(
+    first: &mut F,
+    second: &mut S,
+    n: Counts,
+    v: Corner,
+    to_first: bool,
+    to_second: bool,
+) -> Counts
+    requires { (n.first < 14) × (n.second < 14) }
+    ensures counts { (result.first ≡ n.first + length (joining to_first v)) × (result.second ≡ n.second + length (joining to_second v)) }
+    ensures first { (s : F) (vs : List Corner) → length vs ≡ n.first → first.old ≡ F.holding s vs → first.new ≡ F.holding s (vs ++ joining to_first v) }
+    ensures second { (s : S) (vs : List Corner) → length vs ≡ n.second → second.old ≡ S.holding s vs → second.new ≡ S.holding s (vs ++ joining to_second v) }
+{
+    Counts {
+        first: put_if(first, n.first, v, to_first),
+        second: put_if(second, n.second, v, to_second),
     }
 }
 
 // What the vertex a, with b before it, gives to each part.
-fn turn<F: Part, S: Part>(first: &mut F, second: &mut S, b: Corner, a: Corner, db: f32, da: f32)
-    requires { (F.count first.old + 1 < 14) × (S.count second.old + 1 < 14) }
-    ensures two_more { (F.count first.new ≤ F.count first.old + 2) × (S.count second.new ≤ S.count second.old + 2) }
-    ensures first { (s : F) (vs : List Corner) → first.old ≡ F.made s vs → first.new ≡ F.made s (vs ++ to_first b a db da) }
-    ensures second { (s : S) (vs : List Corner) → second.old ≡ S.made s vs → second.new ≡ S.made s (vs ++ to_second b a db da) }
+fn turn<F: Part, S: Part>(
+    first: &mut F,
+    second: &mut S,
+    n: Counts,
+    b: Corner,
+    a: Corner,
+    db: f32,
+    da: f32,
+) -> Counts
+    requires { (n.first + 1 < 14) × (n.second + 1 < 14) }
+    ensures counts { (result.first ≡ n.first + length (to_first b a db da)) × (result.second ≡ n.second + length (to_second b a db da)) }
+    ensures first { (s : F) (vs : List Corner) → length vs ≡ n.first → first.old ≡ F.holding s vs → first.new ≡ F.holding s (vs ++ to_first b a db da) }
+    ensures second { (s : S) (vs : List Corner) → length vs ≡ n.second → second.old ≡ S.holding s vs → second.new ≡ S.holding s (vs ++ to_second b a db da) }
 {
     if (da >= 0.0) == (db >= 0.0) {
-        take_if(first, a, da >= 0.0);
-        take_if(second, a, da <= 0.0);
-    } else {
-        let c = crossing(b, a, db, da);
-        first.take(c);
-        second.take(c);
-        take_if(first, a, da > 0.0);
-        take_if(second, a, da < 0.0);
+        return join(first, second, n, a, da >= 0.0, da <= 0.0);
     }
+    let c = crossing(b, a, db, da);
+    let m = join(first, second, n, c, true, true);
+    join(first, second, m, a, da > 0.0, da < 0.0)
 }
 
 // The round of a polygon, whose last vertex stands before its first.
-fn go_round<F: Part, S: Part>(vs: &[Corner], axis: Axis, offset: f32, first: &mut F, second: &mut S)
+fn go_round<F: Part, S: Part>(
+    vs: &[Corner],
+    axis: Axis,
+    offset: f32,
+    first: &mut F,
+    second: &mut S,
+) -> Counts
     requires { length vs.now ≤ 7 }
-    ensures first { first.new ≡ F.made first.old (first_of axis offset vs.now) }
-    ensures second { second.new ≡ S.made second.old (second_of axis offset vs.now) }
+    ensures counts { (result.first ≡ length (first_of axis offset vs.now)) × (result.second ≡ length (second_of axis offset vs.now)) }
+    ensures first { first.new ≡ F.holding first.old (first_of axis offset vs.now) }
+    ensures second { second.new ≡ S.holding second.old (second_of axis offset vs.now) }
 {
-    first.clear();
-    second.clear();
+    let mut n = Counts {
+        first: 0,
+        second: 0,
+    };
     let Some(last) = vs.last() else {
-        return;
+        return n;
     };
     let mut b = *last;
     let mut db = offset - coordinate(b, axis);
-    for a in vs {
-        let da = offset - coordinate(*a, axis);
-        turn(first, second, b, *a, db, da);
-        b = *a;
+    for v in vs {
+        let a = *v;
+        let da = offset - coordinate(a, axis);
+        n = turn(first, second, n, b, a, db, da);
+        b = a;
         db = da;
     }
+    n
 }
 
 // The cut of the polygon whose vertices are `vs`. Both parts stand whole even where one of them has an eighth vertex, which is an error;
@@ -128,8 +165,10 @@ pub fn divide<F: Part, S: Part>(
     if vs.len() > 7 {
         return Err(EighthVertex);
     }
-    go_round(vs, axis, offset, first, second);
-    if first.count() > 7 || second.count() > 7 {
+    let n = go_round(vs, axis, offset, first, second);
+    first.end(n.first);
+    second.end(n.second);
+    if n.first > 7 || n.second > 7 {
         return Err(EighthVertex);
     }
     Ok(())

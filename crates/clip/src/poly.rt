@@ -61,26 +61,20 @@ impl Polygon {
 }
 
 impl Part for Polygon {
-    ghost use Rattle.clip.specs.Poly.{polygon_of, polygon_counts};
+    ghost use Rattle.clip.specs.Poly.{polygon_holding, polygon_of, polygon_none};
 
-    ghost count = { λ p. p.n };
-
+    ghost holding = { polygon_holding };
     ghost made = { polygon_of };
 
-    fn clear(&mut self) {
-        self.n = 0;
+    fn put(&mut self, at: usize, v: Corner) {
+        self.at[at] = v;
     }
 
-    fn count(&self) -> usize {
-        self.n
+    fn end(&mut self, n: usize) {
+        self.n = n;
     }
 
-    fn take(&mut self, v: Corner) {
-        self.at[self.n] = v;
-        self.n += 1;
-    }
-
-    ghost counts = { polygon_counts };
+    ghost holding_none = { polygon_none };
 }
 
 impl Poly {
