@@ -29,6 +29,7 @@ impl Part for Piece {
     ghost use Rattle.clip.specs.Cell.{piece_holding, piece_of, piece_none};
 
     ghost holding = { piece_holding };
+
     ghost made = { λ p vs. piece_of vs };
 
     fn put(&mut self, at: usize, v: Corner) {

@@ -26,6 +26,7 @@ struct Counts {
 // `made` says what it then is, whatever it was before, and `holding` what it is until then.
 pub trait Part {
     ghost holding: { Self → List Corner → Self };
+
     ghost made: { Self → List Corner → Self };
 
     // The vertex v, after `at` others.

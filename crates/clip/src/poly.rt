@@ -1,5 +1,5 @@
 // Polygons by value, and their cut.
-ghost use Rattle.std.specs.Prelude.{◌≡◌, [], ◌∷◌, ◌≤◌, take};
+ghost use Rattle.std.specs.Prelude.{◌≡◌, [], ◌∷◌, ◌≤◌, length};
 ghost use Rattle.clip.specs.Cut.{eighth};
 ghost use Rattle.clip.specs.Poly.{vertices_of, poly_of, poly_cut, Answers, held, polygon_of};
 
@@ -54,7 +54,8 @@ impl Polygon {
     }
 
     pub fn vertices(&self) -> &[Corner]
-        ensures { result.now ≡ held self.now }
+        ensures value { result.now ≡ held self.now }
+        ensures whole { self.now.n ≤ 14 → length result.now ≡ self.now.n }
     {
         &self.at[..self.n.min(14)]
     }
@@ -64,6 +65,7 @@ impl Part for Polygon {
     ghost use Rattle.clip.specs.Poly.{polygon_holding, polygon_of, polygon_none};
 
     ghost holding = { polygon_holding };
+
     ghost made = { polygon_of };
 
     fn put(&mut self, at: usize, v: Corner) {

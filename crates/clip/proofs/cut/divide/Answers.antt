@@ -11,8 +11,9 @@ pub returns-then-n-gt7-clause-verdict : goal.returns-then-n-gt7-clause-verdict
 returns-then-n-gt7-clause-verdict g c =
     let n = c.go_round-n.ensures.counts in
     elim c.then-n-gt7.either [
-    inl many ↦ verdict-first _ _ _ c.if-vs-gt7.false (omega (arith, n.0, many))
-    | inr more ↦ verdict-second _ _ _ c.if-vs-gt7.false (omega (arith, n.0, more.0)) (omega (arith, n.1, more.1)) ]
+      | inl many ↦ verdict-first _ _ _ c.if-vs-gt7.false (omega (arith, n.0, many))
+      | inr more ↦ verdict-second _ _ _ c.if-vs-gt7.false (omega (arith, n.0, more.0)) (omega (arith, n.1, more.1))
+    ]
 
 pub returns-clause-verdict : goal.returns-clause-verdict
 returns-clause-verdict g c =

@@ -18,5 +18,5 @@ invariant-loop-v g l =
       many_first : length firsts ≡ l.n.first;
       many_second : length seconds ≡ l.n.second;
       first : l.first ≡ g.F.Part.holding l.fn.first firsts;
-      second : l.second ≡ g.S.Part.holding l.fn.second seconds
+      second : l.second ≡ g.S.Part.holding l.fn.second seconds;
     }

@@ -1,31 +1,27 @@
 -- The loop's invariant: the columns from k on, of what is left of the part, come on the store as it is now to what all of them come to. No more insertions
 -- were made than columns passed.
 use mathlib.Core.List.{List, ◌++◌}
-use Prim.Native.Nat.{ℕ, suc, ◌+◌, ◌-◌, ◌≤◌}
+use Prim.Native.Nat.{ℕ, ◌+◌, ◌≤◌}
+use lib.ListN.{length}
 use Rattle.clip.specs.declared.cut.Axis.TheVariants.{X}
-use Rattle.clip.specs.Arrays.{half}
-use Rattle.clip.specs.Cell.{flat_at}
+use Rattle.clip.specs.Poly.{held}
+use Rattle.clip.specs.Rest.{left}
 use Rattle.clip.specs.Work.{edge_at, cell_events}
 use Rattle.field.specs.Slots.{slots}
 use Rattle.field.specs.Field.{Field, Holds}
 use Rattle.field.specs.Carrying.{carry}
 use Rattle.field.specs.Working.{Remains, turns_to}
-use Rattle.rerecast.specs.Rasterize.{BothPlaces}
 use Rattle.rerecast.proofs.Rasterizing.{Alike}
 use Rattle.rerecast.proofs.rows.columns.Given as goal
 
 abbrev pub invariant-loop-k : goal.invariant-loop-k
 invariant-loop-k l = Alike l.heads l.initial.heads l.floors l.initial.floors l.ceilings l.initial.ceilings l.areas l.initial.areas l.nexts l.initial.nexts
-    × (l.rest ≤ 7)
-    × BothPlaces l.px l.py
+    × (length (left l.rest) ≤ 7)
     × (l.count + l.first ≤ l.made + l.k)
     × ((others : List ℕ) (f : Field) → Holds (l.initial.heads ++ others) (slots l.initial.free l.initial.floors l.initial.ceilings l.initial.areas l.initial.nexts) f
     → Remains l.job.frame.width l.job.threshold l.job.area
-    (carry l.job.frame.width l.job.threshold l.job.area l.made f (turns_to X (edge_at l.job.frame X) (cell_events l.job.frame l.z) l.last l.first (flat_at l.xs l.ys 0 l.n)))
+    (carry l.job.frame.width l.job.threshold l.job.area l.made f (turns_to X (edge_at l.job.frame X) (cell_events l.job.frame l.z) l.last l.first (held l.row)))
     l.count
-    (turns_to X (edge_at l.job.frame X) (cell_events l.job.frame l.z) l.last l.k (flat_at l.px l.py (half l.upper) l.rest))
+    (turns_to X (edge_at l.job.frame X) (cell_events l.job.frame l.z) l.last l.k (left l.rest))
     (l.heads ++ others)
     (slots l.free l.floors l.ceilings l.areas l.nexts))
-
-abbrev pub decreases-loop-k : goal.decreases-loop-k
-decreases-loop-k l = suc l.last - l.k

@@ -1,11 +1,12 @@
 -- The loop's invariant: the rows from k on, of what is left of the triangle, come on the store as it is now to what all of them come to. No more
 -- insertions were made than the rows passed have cells.
 use mathlib.Core.List.{List, ◌++◌}
-use Prim.Native.Nat.{ℕ, suc, ◌*◌, ◌-◌, ◌≤◌}
+use Prim.Native.Nat.{ℕ, ◌*◌, ◌≤◌}
+use lib.ListN.{length}
 use Rattle.clip.specs.declared.cut.Axis.TheVariants.{Z}
-use Rattle.clip.specs.Arrays.{arrays, polygon_at, half}
+use Rattle.clip.specs.Poly.{held}
+use Rattle.clip.specs.Rest.{left}
 use Rattle.clip.specs.Work.{edge_at, row_events}
-use Rattle.clip.proofs.Places.{Long}
 use Rattle.field.specs.Slots.{slots}
 use Rattle.field.specs.Field.{Field, Holds}
 use Rattle.field.specs.Carrying.{carry}
@@ -15,17 +16,12 @@ use Rattle.rerecast.proofs.rows.rows.Given as goal
 
 abbrev pub invariant-loop-k : goal.invariant-loop-k
 invariant-loop-k l = Alike l.heads l.initial.heads l.floors l.initial.floors l.ceilings l.initial.ceilings l.areas l.initial.areas l.nexts l.initial.nexts
-    × (l.rest ≤ 7)
-    × Long 28 (arrays l.px l.py l.pz)
-    × Long 28 (arrays l.rx l.ry l.rz)
+    × (length (left l.rest) ≤ 7)
     × (l.count ≤ l.k * 4097)
     × ((others : List ℕ) (f : Field) → Holds (l.initial.heads ++ others) (slots l.initial.free l.initial.floors l.initial.ceilings l.initial.areas l.initial.nexts) f
     → Remains l.job.frame.width l.job.threshold l.job.area
-    (carry l.job.frame.width l.job.threshold l.job.area 0 f (turns_to Z (edge_at l.job.frame Z) (row_events l.job.frame) l.last l.first (polygon_at (arrays l.xs l.ys l.zs) 0 3)))
+    (carry l.job.frame.width l.job.threshold l.job.area 0 f (turns_to Z (edge_at l.job.frame Z) (row_events l.job.frame) l.last l.first (held l.triangle)))
     l.count
-    (turns_to Z (edge_at l.job.frame Z) (row_events l.job.frame) l.last l.k (polygon_at (arrays l.px l.py l.pz) (half l.upper) l.rest))
+    (turns_to Z (edge_at l.job.frame Z) (row_events l.job.frame) l.last l.k (left l.rest))
     (l.heads ++ others)
     (slots l.free l.floors l.ceilings l.areas l.nexts))
-
-abbrev pub decreases-loop-k : goal.decreases-loop-k
-decreases-loop-k l = suc l.last - l.k
