@@ -1,19 +1,16 @@
 -- Along x a vertex's z counts for nothing: a polygon and the same polygon with 0 for every z have, but for z, the same parts, and a row or a cell makes the same of both.
 use mathlib.Core.Path.{◌≡◌, refl, sym, ap, ◌∙◌}
-use mathlib.Core.Bool.{Bool, true, false, not, ◌&&◌, cond}
+use mathlib.Core.Bool.{Bool, true, false, ◌&&◌, cond}
 use mathlib.Core.List.{List, [], ◌∷◌, map, map-append}
-use Prim.Native.Nat.{ℕ, zero, suc, ◌-◌, ◌≤◌}
-use native.Mathlib.Omega.{arith}
+use Prim.Native.Nat.{ℕ, zero, suc, ◌-◌}
 use lib.Dec.{leb}
 use lib.IntN.{ℤ, pos, negsuc, suc_ℤ}
 use lib.ListN.{length, length-map}
-use lib.Seq.{sets, length-sets}
 use lib.Ieee.{Float, le, lt}
-use borrow.Author.Tests.{le-leb}
 use Rattle.grid.specs.declared.Corner.{Corner}
 use Rattle.clip.specs.declared.cut.Axis.TheVariants.{X}
 use Rattle.clip.specs.declared.frame.Frame.{Frame}
-use Rattle.clip.specs.Cut.{nought, x_of, y_of, z_of, along, distance, crossing_of, agree, joining, to_first, to_second, onward, last_of, around, gives_first, gives_second, first_of, second_of, most_vertices, fitting, parts, eighth, cut_of}
+use Rattle.clip.specs.Cut.{nought, y_of, along, distance, crossing_of, agree, joining, to_first, to_second, onward, last_of, around, gives_first, gives_second, first_of, second_of, most_vertices, fitting, parts, eighth, cut_of}
 use Rattle.clip.specs.Slices.{held_first, held_last}
 use Rattle.clip.specs.Work.{Event, on_cut, slices, within, from_to, first_cell, last_cell, edge_at, cell_events, row_events}
 

@@ -3,9 +3,8 @@ use mathlib.Core.Path.{◌≡◌, refl, ap}
 use mathlib.Core.Bool.{true, false, true≢false}
 use Prim.Native.Nat.{ℕ, ◌≤◌, ◌<◌, min, max}
 use native.Mathlib.Omega.{arith}
-use lib.Dec.{T}
 use lib.IntN.{ℤ, pos, negsuc, nat_abs}
-use lib.Signed.{lt_z, non_neg, mag}
+use lib.Signed.{lt_z, mag}
 use borrow.Author.Tests.{ltb-true}
 use Rattle.std.specs.Int.{FitsUnsignedBits}
 use Rattle.clip.specs.Slices.{held_to, held_first}

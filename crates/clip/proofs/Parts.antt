@@ -1,14 +1,14 @@
 -- Of what a part keeps: one vertex more of a part that is written down, and of one that keeps the heights alone.
-use mathlib.Core.Path.{◌≡◌, refl, sym, ap, ◌∙◌}
-use mathlib.Core.List.{List, [], ◌∷◌, ◌++◌, map, map-append, foldl, foldl-append}
-use Prim.Native.Nat.{ℕ, zero, suc, ◌+◌, ◌≤◌, ◌<◌}
+use mathlib.Core.Path.{◌≡◌, ap, ◌∙◌}
+use mathlib.Core.List.{List, [], ◌∷◌, ◌++◌, map, map-append, foldl-append}
+use Prim.Native.Nat.{ℕ, suc, ◌+◌, ◌≤◌, ◌<◌}
 use native.Mathlib.Nat.{add-zero, zero-add, add-suc, suc-add}
 use native.Mathlib.Numerals.{add-one}
 use native.Mathlib.Omega.{arith}
 use borrow.Author.Tests.{leb-true}
 use mathlib.Core.Bool.{cond}
 use lib.Ieee.{Float}
-use lib.ListN.{length, length-append, set, take, drop, get_or}
+use lib.ListN.{length, set, take, drop, get_or}
 use lib.Seq.{sets, sets-eq, take-suc, take-append_seam, length-take-le, length-sets}
 use Rattle.std.proofs.Common.{length-take}
 use Rattle.grid.specs.declared.Corner.{Corner}
@@ -17,7 +17,7 @@ use Rattle.clip.specs.declared.poly.Polygon.{Polygon}
 use Rattle.clip.specs.declared.cut.Axis.{Axis}
 use Rattle.clip.specs.Cut.{y_of, fitting, first_of, second_of}
 use Rattle.clip.proofs.Rounds.{Fits}
-use Rattle.clip.specs.Cell.{piece_of, piece_holding}
+use Rattle.clip.specs.Cell.{piece_holding}
 use Rattle.clip.specs.Poly.{held, polygon_holding, polygon_of}
 use Rattle.clip.specs.Slices.{together}
 use Rattle.ops.specs.Order.{lesser_of, greater_of}

@@ -1,23 +1,20 @@
 -- Of polygons by value: what `divide_poly` owes, by how many vertices there are, and an answer that fixes all of it.
-use mathlib.Core.Path.{◌≡◌, refl, sym, ap, ◌∙◌}
-use mathlib.Core.Bool.{true, false, cond}
+use mathlib.Core.Path.{◌≡◌, refl, sym, ◌∙◌}
 use mathlib.Core.List.{List}
 use Prim.Native.Nat.{ℕ, ◌≤◌, ◌<◌}
 use native.Mathlib.Omega.{arith}
-use lib.Dec.{eqb}
 use lib.ListN.{length}
 use lib.Seq.{length-take-le}
 use lib.Ieee.{Float}
 use borrow.Author.Tests.{le-leb, lt-leb}
 use Rattle.std.specs.Prelude.{Result, Ok, Err, IsErr}
-use Rattle.replies.specs.Said.{Said}
 use Rattle.grid.specs.declared.Corner.{Corner}
 use Rattle.clip.specs.declared.cut.Axis.{Axis}
 use Rattle.clip.specs.declared.cut.EighthVertex.{EighthVertex}
 use Rattle.clip.specs.declared.poly.Poly.{Poly}
 use Rattle.clip.specs.declared.poly.Parts.{Parts}
-use Rattle.clip.specs.Cut.{Cut, parts, eighth, slice_cut, verdict_of, cut_says}
-use Rattle.clip.specs.Poly.{vertices_of, poly_of, poly_cut, said_of, PartsAre, Answers}
+use Rattle.clip.specs.Cut.{Cut, parts, eighth, slice_cut}
+use Rattle.clip.specs.Poly.{vertices_of, poly_of, poly_cut, Answers}
 
 -- ---- a polygon of at most 7 vertices, and one that names more
 pub poly-few : (axis : Axis) (offset : Float) (p : Poly) → p.n ≤ 7 → p.n ≤ length p.at → poly_cut axis offset p ≡ slice_cut axis offset (vertices_of p)

@@ -11,9 +11,8 @@ use Rattle.replies.specs.Said.{Said, Value, whole, real}
 use Rattle.ops.specs.Round.{ceil_to}
 use Rattle.ops.specs.Order.{lesser_of}
 use Rattle.clip.specs.Cut.{nought}
-use Rattle.std.specs.Prelude.{Option, Some, None, Ok, Err}
+use Rattle.std.specs.Prelude.{Some, None, Ok, Err}
 use Rattle.clip.specs.declared.heights.Heights.{Heights}
-use Rattle.clip.specs.declared.heights.TooHigh.{TooHigh}
 use Rattle.clip.specs.Snap.{Snap, low, high, outside, floor_of, ceiling_of, snapped, snap_says, said_of}
 use Rattle.clip.proofs.Holds.{held-le, held-ge}
 

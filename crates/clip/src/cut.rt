@@ -119,6 +119,7 @@ fn turn<F: Part, S: Part>(
 }
 
 // The round of a polygon, whose last vertex stands before its first.
+#[inline(always)]
 fn go_round<F: Part, S: Part>(
     vs: &[Corner],
     axis: Axis,
@@ -152,6 +153,7 @@ fn go_round<F: Part, S: Part>(
 
 // The cut of the polygon whose vertices are `vs`. Both parts stand whole even where one of them has an eighth vertex, which is an error;
 // a polygon of more than 7 vertices is one too, and then both parts stay as they were.
+#[inline(always)]
 pub fn divide<F: Part, S: Part>(
     vs: &[Corner],
     axis: Axis,

@@ -28,6 +28,7 @@ impl Rest {
     }
 
     // Cuts a part off, which stands whole where the cut is no error.
+    #[inline(always)]
     pub fn cut<F: Part>(
         &mut self,
         axis: Axis,

@@ -3,9 +3,8 @@ use mathlib.Core.Path.{◌≡◌, refl, sym, ap, ◌∙◌}
 use native.Mathlib.Omega.{arith}
 use lib.Ieee.{Float, binary32, nan, sub}
 use lib.ListN.{length, length-append, take, get_or}
-use mathlib.Core.List.{List}
 use Rattle.grid.specs.declared.Corner.{Corner}
-use Rattle.clip.specs.Cut.{distance, to_first, to_second, onward, first_of, second_of, gives_first, gives_second}
+use Rattle.clip.specs.Cut.{to_first, to_second, onward, first_of, second_of, gives_first, gives_second}
 use Rattle.clip.proofs.Rounds.{none-last, around-last, around-none, onward-all, turn-next, last-next, first_two, second-two}
 use Rattle.clip.proofs.cut.go_round.Goals as goal
 use Rattle.clip.proofs.cut.go_round.Goals.{After-loop-v}

@@ -1,5 +1,5 @@
 -- `clip::cut::turn` meets its contract.
-use mathlib.Core.Path.{◌≡◌, ◌∙◌}
+use mathlib.Core.Path.{◌≡◌}
 use mathlib.Core.List.{List, [], ◌∷◌, ◌++◌}
 use Prim.Native.Nat.{◌+◌}
 use native.Mathlib.Omega.{arith}

@@ -1,7 +1,7 @@
 -- `clip::frame::meets` meets its contract.
 use borrow.Author.Rules.{rules}
 use mathlib.Core.Path.{◌≡◌, sym, ◌∙◌}
-use mathlib.Core.Bool.{true, true≢false}
+use mathlib.Core.Bool.{true≢false}
 use mathlib.Core.List.{map}
 use Rattle.clip.specs.Cut.{x_of, y_of, z_of}
 use Rattle.clip.specs.Work.{reaches_of, meets_of}

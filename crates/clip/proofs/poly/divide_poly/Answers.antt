@@ -1,12 +1,9 @@
 -- `clip::poly::divide_poly` meets its contract.
 use borrow.Author.Rules.{rules}
-use mathlib.Core.Path.{◌≡◌, refl, ap, ◌∙◌}
-use Prim.Native.Nat.{ℕ, ◌≤◌}
+use mathlib.Core.Path.{◌≡◌, ap, ◌∙◌}
 use native.Mathlib.Omega.{arith}
 use lib.ListN.{length}
-use borrow.Author.Tests.{leb-true}
-use Rattle.clip.specs.declared.poly.Polygon.{Polygon}
-use Rattle.clip.specs.Poly.{polygon_of, poly_of, vertices_of}
+use Rattle.clip.specs.Poly.{poly_of, vertices_of}
 use Rattle.clip.specs.Cut.{first_of, second_of}
 use Rattle.clip.proofs.Rounds.{Fits, verdict-ok, refused-is, cut-fits}
 use Rattle.clip.proofs.Parts.{first-held, second-held, first-few, second-few}

@@ -4,7 +4,7 @@ use mathlib.Core.Path.{◌≡◌, ap, ◌∙◌}
 use mathlib.Core.List.{List}
 use Prim.Native.Nat.{ℕ}
 use native.Mathlib.Omega.{arith}
-use lib.Ieee.{of_bits, nan}
+use lib.Ieee.{nan}
 use lib.ListN.{length, take, replicate, get_or, set}
 use lib.Seq.{sets, length-take-le}
 use Rattle.grid.specs.declared.Corner.{Corner}

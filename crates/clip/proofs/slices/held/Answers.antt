@@ -1,5 +1,5 @@
 -- `clip::slices::held` meets its contract.
-use mathlib.Core.Path.{◌≡◌, ap, ◌∙◌}
+use mathlib.Core.Path.{ap, ◌∙◌}
 use Prim.Native.Nat.{ℕ, min, max}
 use lib.IntN.{ℤ}
 use mir.Syntax.{w32}

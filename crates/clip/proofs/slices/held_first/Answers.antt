@@ -1,13 +1,12 @@
 -- `clip::slices::held_first` meets its contract.
 use mathlib.Core.Path.{◌≡◌, ap, ◌∙◌}
-use Prim.Native.Nat.{ℕ, ◌<◌, min}
+use Prim.Native.Nat.{ℕ, min}
 use native.Mathlib.Omega.{arith}
-use lib.IntN.{ℤ, pos, nat_abs}
+use lib.IntN.{pos, nat_abs}
 use mir.Syntax.{w32}
 use mir.Facts.{to_z_pos}
 use mir.ValLaws.{to_z-of_z}
 use Rattle.std.specs.Int.{FitsUnsignedBits}
-use Rattle.clip.specs.Slices.{held_first}
 use Rattle.clip.proofs.Holds.{first-fit, first-unfit, nat_abs_le}
 use Rattle.clip.proofs.slices.held_first.Goals as goal
 

@@ -1,9 +1,6 @@
 -- `clip::slices::together` meets its contract.
-use mathlib.Core.Path.{◌≡◌, ap, ◌∙◌}
-use mathlib.Core.List.{List, map, foldl}
-use lib.Ieee.{Float, of_bits}
-use Rattle.grid.specs.declared.Corner.{Corner}
-use Rattle.clip.specs.Slices.{together}
+use mathlib.Core.Path.{◌∙◌}
+use lib.Ieee.{of_bits}
 use Rattle.clip.proofs.Folds.{together-none, together-all}
 use Rattle.clip.proofs.slices.together.Goals as goal
 
