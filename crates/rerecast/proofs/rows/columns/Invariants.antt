@@ -2,26 +2,26 @@
 -- were made than columns passed.
 use mathlib.Core.List.{List, ◌++◌}
 use Prim.Native.Nat.{ℕ, ◌+◌, ◌≤◌}
+use lib.ListN.{length}
 use Rattle.clip.specs.declared.cut.Axis.TheVariants.{X}
-use Rattle.clip.specs.Arrays.{half}
-use Rattle.clip.specs.Cell.{flat_at}
+use Rattle.clip.specs.Poly.{held}
+use Rattle.clip.specs.Rest.{left}
 use Rattle.clip.specs.Work.{edge_at, cell_events}
+use Rattle.field.specs.Slots.{slots}
 use Rattle.field.specs.Field.{Field, Holds}
 use Rattle.field.specs.Carrying.{carry}
 use Rattle.field.specs.Working.{Remains, turns_to}
-use Rattle.rerecast.specs.Lent.{slots_of, SameSlots}
-use Rattle.rerecast.specs.Rasterize.{BothPlaces}
+use Rattle.rerecast.proofs.Rasterizing.{Alike}
 use Rattle.rerecast.proofs.rows.columns.Given as goal
 
 abbrev pub invariant-loop-k : goal.invariant-loop-k
-invariant-loop-k l = (l.rest ≤ 7)
-    × BothPlaces l.px l.py
+invariant-loop-k l = Alike l.heads l.initial.heads l.floors l.initial.floors l.ceilings l.initial.ceilings l.areas l.initial.areas l.nexts l.initial.nexts
+    × (length (left l.rest) ≤ 7)
     × (l.count + l.first ≤ l.made + l.k)
-    × ((others : List ℕ) (f : Field) → Holds (l.initial.heads ++ others) (slots_of l.initial.slots) f
+    × ((others : List ℕ) (f : Field) → Holds (l.initial.heads ++ others) (slots l.initial.free l.initial.floors l.initial.ceilings l.initial.areas l.initial.nexts) f
     → Remains l.job.frame.width l.job.threshold l.job.area
-    (carry l.job.frame.width l.job.threshold l.job.area l.made f (turns_to X (edge_at l.job.frame X) (cell_events l.job.frame l.z) l.last l.first (flat_at l.xs l.ys 0 l.n)))
+    (carry l.job.frame.width l.job.threshold l.job.area l.made f (turns_to X (edge_at l.job.frame X) (cell_events l.job.frame l.z) l.last l.first (held l.row)))
     l.count
-    (turns_to X (edge_at l.job.frame X) (cell_events l.job.frame l.z) l.last l.k (flat_at l.px l.py (half l.upper) l.rest))
+    (turns_to X (edge_at l.job.frame X) (cell_events l.job.frame l.z) l.last l.k (left l.rest))
     (l.heads ++ others)
-    (slots_of l.slots))
-    × SameSlots l.initial.slots l.slots
+    (slots l.free l.floors l.ceilings l.areas l.nexts))
