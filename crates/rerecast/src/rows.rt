@@ -101,7 +101,7 @@ fn column(
     ensures carries { (others : List ℕ) (f : Field) → Holds (heads.old ++ others) (slots_of slots.old) f
         → Carries job made f (turn_events (slice_cut Axis.X (edge_at job.frame Axis.X (numbered k)) (left rest.old)) (cell_events job.frame z) k) result
         (heads.new ++ others) (slots_of slots.new) }
-    ensures rest { CutsOff Axis.X (edge_at job.frame Axis.X (numbered k)) (left rest.old) (left rest.new) result }
+    ensures cuts_off { CutsOff Axis.X (edge_at job.frame Axis.X (numbered k)) (left rest.old) (left rest.new) result }
     ensures same_slots { SameSlots slots.old slots.new }
 {
     let grid = job.frame.grid;
@@ -187,7 +187,7 @@ fn row_at(
     ensures carries { (others : List ℕ) (f : Field) → Holds (heads.old ++ others) (slots_of slots.old) f
         → Carries job made f (turn_events (slice_cut Axis.Z (edge_at job.frame Axis.Z (numbered k)) (left rest.old)) (row_events job.frame) k) result
         (heads.new ++ others) (slots_of slots.new) }
-    ensures rest { CutsOff Axis.Z (edge_at job.frame Axis.Z (numbered k)) (left rest.old) (left rest.new) result }
+    ensures cuts_off { CutsOff Axis.Z (edge_at job.frame Axis.Z (numbered k)) (left rest.old) (left rest.new) result }
     ensures same_slots { SameSlots slots.old slots.new }
 {
     let grid = job.frame.grid;

@@ -32,8 +32,8 @@ turns f vs s₀ s₁ least greatest e₀ e₁ h first last p q =
     let last-is = cell-read f.grid.min.z f.inverse s₁ e₁ greatest in
     triangle-turns f vs h first last (rw first-is at p) (rw last-is at q)
 
-pub returns-then-not-meets : goal.returns-then-not-meets
-returns-then-not-meets c others f H =
+pub returns-then-not-meets-clause-carries : goal.returns-then-not-meets-clause-carries
+returns-then-not-meets-clause-carries c others f H =
     let a = c.args in
     remains-is a.job.frame.width a.job.threshold a.job.area 0 (triangle-missed a.job.frame (a.a ∷ a.b ∷ a.c ∷ []) (sym c.meets.ensures ∙ c.if-not-meets.true)) H
 
@@ -46,8 +46,8 @@ pub rows-requires-clause-ready : goal.rows-requires-clause-ready
 rows-requires-clause-ready c =
     (c.requires.ready, rw c.of_three.ensures (omega arith), last-inside c.args.job.frame.height _ c.requires.ready.sides.some-high c.held_last-last.ensures)
 
-pub returns : goal.returns
-returns c others f H =
+pub returns-clause-carries : goal.returns-clause-carries
+returns-clause-carries c others f H =
     let a = c.args in
     let vs : List Corner = a.a ∷ a.b ∷ a.c ∷ [] in
     let z₀ = c.cell_at-z0 in
@@ -56,4 +56,4 @@ returns c others f H =
     let greatest : c.greatest_of.result ≡ greatest_of (map z_of vs) = c.greatest_of.ensures z_of (search rules) in
     let each = turns a.job.frame vs (record { sfits = z₀.type_inv }) (record { sfits = z₁.type_inv }) least greatest z₀.ensures z₁.ensures (sym c.meets.ensures ∙ c.if-not-meets.false)
     c.first_of-first.result c.held_last-last.result c.first_of-first.ensures c.held_last-last.ensures in
-    remains-of a.job.frame.width a.job.threshold a.job.area 0 f each (rw c.of_three.ensures at (c.rows.ensures others f H))
+    remains-of a.job.frame.width a.job.threshold a.job.area 0 f each (rw c.of_three.ensures at (c.rows.ensures.carries others f H))

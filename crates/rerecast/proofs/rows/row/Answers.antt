@@ -1,4 +1,4 @@
--- `rasterize::row` meets its contract.
+-- `rows::row` meets its contract.
 use borrow.Author.Rules.{rules}
 use mathlib.Core.Path.{◌≡◌, sym, ap, ◌∙◌}
 use mathlib.Core.Bool.{true, false, ◌||◌}
@@ -43,8 +43,8 @@ module _ (f : Frame) (z : ℕ) (part : List Corner) {x₀ x₁ : ℤ} (s₀ : SF
       → row_events f z part ≡ turns_to X (edge_at f X) (cell_events f z) (last + 1) first part
   turns h first last a b = row-turns f z part (rw (first-is, last-is) at h) first last (rw first-is at a) (rw last-is at b)
 
-pub returns-then-misses : goal.returns-then-misses
-returns-then-misses c others f H =
+pub returns-then-misses-clause-carries : goal.returns-then-misses-clause-carries
+returns-then-misses-clause-carries c others f H =
     let a = c.args in
     let x₀ = c.cell_at-x0 in
     let x₁ = c.cell_at-x1 in
@@ -63,8 +63,8 @@ columns-requires-clause-ready c =
     let ready = c.requires.ready in
     (ready.0, ready.1, ready.2, last-inside c.args.job.frame.width _ ready.0.sides.some-wide c.held_last-last.ensures, ready.3)
 
-pub returns : goal.returns
-returns c others f H =
+pub returns-clause-carries : goal.returns-clause-carries
+returns-clause-carries c others f H =
     let a = c.args in
     let x₀ = c.cell_at-x0 in
     let x₁ = c.cell_at-x1 in
@@ -72,4 +72,4 @@ returns c others f H =
     let greatest : c.greatest_of.result ≡ greatest_of (map x_of (held a.part.now)) = c.greatest_of.ensures x_of (search rules) ∙ ap (λ (vs : List Corner). greatest_of (map x_of vs)) c.vertices-vs.ensures.value in
     let each = turns a.job.frame a.z (held a.part.now) (record { sfits = x₀.type_inv }) (record { sfits = x₁.type_inv }) least greatest x₀.ensures x₁.ensures
     (sym c.misses.ensures ∙ c.if-misses.false) c.first_of-first.result c.held_last-last.result c.first_of-first.ensures c.held_last-last.ensures in
-    remains-of a.job.frame.width a.job.threshold a.job.area a.made f each (c.columns.ensures others f H)
+    remains-of a.job.frame.width a.job.threshold a.job.area a.made f each (c.columns.ensures.carries others f H)

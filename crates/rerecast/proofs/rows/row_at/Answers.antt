@@ -1,4 +1,4 @@
--- `rasterize::row_at` meets its contract.
+-- `rows::row_at` meets its contract.
 use borrow.Author.Rules.{rules}
 use mathlib.Core.Path.{◌≡◌, sym, ap, ◌∙◌}
 use mathlib.Core.List.{List}
@@ -19,19 +19,19 @@ use Rattle.field.proofs.Carrying.{remains-is, remains-of}
 use Rattle.rerecast.proofs.Rasterizing.{edge-read, cuts-off, turn-is, part-few, rest-few}
 use Rattle.rerecast.proofs.rows.row_at.Goals as goal
 
-pub returns-then-gives_nothing-clause-work : goal.returns-then-gives_nothing-clause-work
-returns-then-gives_nothing-clause-work c others f H =
+pub returns-then-gives_nothing-clause-carries : goal.returns-then-gives_nothing-clause-carries
+returns-then-gives_nothing-clause-carries c others f H =
     let a = c.args in
     let end : c.edge-end.result ≡ edge_at a.job.frame Z (numbered a.k) = edge-read a.job.frame.grid.min.z a.job.frame.grid.cell_size (record { sfits = c.number.type_inv }) c.number.ensures c.edge-end.ensures in
     let off = first_of Z (edge_at a.job.frame Z (numbered a.k)) (left a.rest.now) in
     let few : length off ≤ 7 = part-few Z _ end c.in_default.ensures.verdict in
-    let part : c.cut-cut.new.first ≡ polygon_of a.part.now off = c.in_default.ensures.part ∙ ap (λ (e : Float). polygon_of a.part.now (first_of Z e (left a.rest.now))) end in
+    let part : c.cut.new.first ≡ polygon_of a.part.now off = c.in_default.ensures.part ∙ ap (λ (e : Float). polygon_of a.part.now (first_of Z e (left a.rest.now))) end in
     let seen : c.vertices.result.now ≡ off = seen_is a.part.now off part (omega (arith, few)) c.vertices.ensures.value c.vertices.ensures.whole in
     remains-is a.job.frame.width a.job.threshold a.job.area a.made
     (turn-is Z _ end c.in_default.ensures.verdict (row_events a.job.frame) a.k ∙ c.if-gives_nothing.ensures (row_events a.job.frame) _ (ap length (sym seen))) H
 
-pub returns-then-gives_nothing-clause-rest : goal.returns-then-gives_nothing-clause-rest
-returns-then-gives_nothing-clause-rest c =
+pub returns-then-gives_nothing-clause-cuts_off : goal.returns-then-gives_nothing-clause-cuts_off
+returns-then-gives_nothing-clause-cuts_off c =
     let a = c.args in
     let end : c.edge-end.result ≡ edge_at a.job.frame Z (numbered a.k) = edge-read a.job.frame.grid.min.z a.job.frame.grid.cell_size (record { sfits = c.number.type_inv }) c.number.ensures c.edge-end.ensures in
     rest-few Z _ end c.in_default.ensures.verdict _ c.in_default.ensures.rest
@@ -43,29 +43,28 @@ row-requires-clause-ready c =
     let end : c.edge-end.result ≡ edge_at a.job.frame Z (numbered a.k) = edge-read a.job.frame.grid.min.z a.job.frame.grid.cell_size (record { sfits = c.number.type_inv }) c.number.ensures c.edge-end.ensures in
     let off = first_of Z (edge_at a.job.frame Z (numbered a.k)) (left a.rest.now) in
     let few : length off ≤ 7 = part-few Z _ end c.in_default.ensures.verdict in
-    let part : c.cut-cut.new.first ≡ polygon_of a.part.now off = c.in_default.ensures.part ∙ ap (λ (e : Float). polygon_of a.part.now (first_of Z e (left a.rest.now))) end in
+    let part : c.cut.new.first ≡ polygon_of a.part.now off = c.in_default.ensures.part ∙ ap (λ (e : Float). polygon_of a.part.now (first_of Z e (left a.rest.now))) end in
     let seen : c.vertices.result.now ≡ off = seen_is a.part.now off part (omega (arith, few)) c.vertices.ensures.value c.vertices.ensures.whole in
-    let stands : held c.cut-cut.new.first ≡ off = sym c.vertices.ensures.value ∙ seen in
+    let stands : held c.cut.new.first ≡ off = sym c.vertices.ensures.value ∙ seen in
     (ready.0, omega (arith, ready.1, c.if-gives_nothing.ensures.0), omega (arith, ap length stands, few), ready.2)
 
-pub returns-clause-work : goal.returns-clause-work
-returns-clause-work c others f H =
+pub returns-clause-carries : goal.returns-clause-carries
+returns-clause-carries c others f H =
     let a = c.args in
     let end : c.edge-end.result ≡ edge_at a.job.frame Z (numbered a.k) = edge-read a.job.frame.grid.min.z a.job.frame.grid.cell_size (record { sfits = c.number.type_inv }) c.number.ensures c.edge-end.ensures in
     let off = first_of Z (edge_at a.job.frame Z (numbered a.k)) (left a.rest.now) in
     let few : length off ≤ 7 = part-few Z _ end c.in_default.ensures.verdict in
-    let part : c.cut-cut.new.first ≡ polygon_of a.part.now off = c.in_default.ensures.part ∙ ap (λ (e : Float). polygon_of a.part.now (first_of Z e (left a.rest.now))) end in
+    let part : c.cut.new.first ≡ polygon_of a.part.now off = c.in_default.ensures.part ∙ ap (λ (e : Float). polygon_of a.part.now (first_of Z e (left a.rest.now))) end in
     let seen : c.vertices.result.now ≡ off = seen_is a.part.now off part (omega (arith, few)) c.vertices.ensures.value c.vertices.ensures.whole in
-    let stands : held c.cut-cut.new.first ≡ off = sym c.vertices.ensures.value ∙ seen in
+    let stands : held c.cut.new.first ≡ off = sym c.vertices.ensures.value ∙ seen in
     remains-of a.job.frame.width a.job.threshold a.job.area a.made f
     (turn-is Z _ end c.in_default.ensures.verdict (row_events a.job.frame) a.k
     ∙ c.if-gives_nothing.ensures.1 (row_events a.job.frame) _ (ap length (sym seen))
     ∙ ap (λ (vs : List Corner). row_events a.job.frame (a.k - 1) vs) (sym stands))
-    (c.row.ensures others f H)
+    (c.row.ensures.carries others f H)
 
-pub returns-clause-rest : goal.returns-clause-rest
-returns-clause-rest c =
+pub returns-clause-cuts_off : goal.returns-clause-cuts_off
+returns-clause-cuts_off c =
     let a = c.args in
     let end : c.edge-end.result ≡ edge_at a.job.frame Z (numbered a.k) = edge-read a.job.frame.grid.min.z a.job.frame.grid.cell_size (record { sfits = c.number.type_inv }) c.number.ensures c.edge-end.ensures in
-    let more = rest-few Z _ end c.in_default.ensures.verdict _ c.in_default.ensures.rest in
-    cuts-off Z _ _ _ c.row.result more.0 more.1
+    cuts-off Z _ _ _ c.row.result (rest-few Z _ end c.in_default.ensures.verdict _ c.in_default.ensures.rest)

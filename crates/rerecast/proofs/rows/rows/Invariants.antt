@@ -7,21 +7,20 @@ use Rattle.clip.specs.declared.cut.Axis.TheVariants.{Z}
 use Rattle.clip.specs.Poly.{held}
 use Rattle.clip.specs.Rest.{left}
 use Rattle.clip.specs.Work.{edge_at, row_events}
-use Rattle.field.specs.Slots.{slots}
 use Rattle.field.specs.Field.{Field, Holds}
 use Rattle.field.specs.Carrying.{carry}
 use Rattle.field.specs.Working.{Remains, turns_to}
-use Rattle.rerecast.proofs.Rasterizing.{Alike}
+use Rattle.rerecast.specs.Lent.{slots_of, SameSlots}
 use Rattle.rerecast.proofs.rows.rows.Given as goal
 
 abbrev pub invariant-loop-k : goal.invariant-loop-k
-invariant-loop-k l = Alike l.heads l.initial.heads l.floors l.initial.floors l.ceilings l.initial.ceilings l.areas l.initial.areas l.nexts l.initial.nexts
-    × (length (left l.rest) ≤ 7)
+invariant-loop-k l = (length (left l.rest) ≤ 7)
     × (l.count ≤ l.k * 4097)
-    × ((others : List ℕ) (f : Field) → Holds (l.initial.heads ++ others) (slots l.initial.free l.initial.floors l.initial.ceilings l.initial.areas l.initial.nexts) f
+    × ((others : List ℕ) (f : Field) → Holds (l.initial.heads ++ others) (slots_of l.initial.slots) f
     → Remains l.job.frame.width l.job.threshold l.job.area
     (carry l.job.frame.width l.job.threshold l.job.area 0 f (turns_to Z (edge_at l.job.frame Z) (row_events l.job.frame) l.last l.first (held l.triangle)))
     l.count
     (turns_to Z (edge_at l.job.frame Z) (row_events l.job.frame) l.last l.k (left l.rest))
     (l.heads ++ others)
-    (slots l.free l.floors l.ceilings l.areas l.nexts))
+    (slots_of l.slots))
+    × SameSlots l.initial.slots l.slots
