@@ -1,7 +1,7 @@
 -- What the rasteriser's inner functions owe one another: an insertion's answer, how many insertions a step can have made, and a turn of the loops over rows
 -- and columns.
 use mathlib.Core.Path.{◌≡◌, refl, sym, ap, subst, ◌∙◌}
-use mathlib.Core.Bool.{true, false}
+use mathlib.Core.Bool.{false}
 use mathlib.Core.List.{List, [], ◌∷◌}
 use Prim.Native.Nat.{ℕ, ◌+◌, ◌-◌, ◌*◌, ◌≤◌, ◌<◌}
 use native.Mathlib.Omega.{arith}
@@ -24,7 +24,7 @@ use Rattle.clip.specs.Work.{Event, insert as offer, and_then, within, frame_of}
 use Rattle.clip.proofs.Holds.{held-le}
 use Rattle.field.specs.Slots.{Slots}
 use Rattle.field.specs.Field.{Field, Holds, Inserted, insert}
-use Rattle.field.specs.Carrying.{Carried, went, stopped, carry}
+use Rattle.field.specs.Carrying.{Carried, carry}
 use Rattle.field.specs.Working.{Remains, numbered, turn_events}
 use Rattle.field.proofs.Carrying.{made_in, made-few, insertion-made, insertion-refused, remains-then, remains-as}
 use Rattle.rerecast.specs.Inner.{Lands}

@@ -1,5 +1,4 @@
 -- `rasterize::row_at` meets its contract.
-use borrow.Author.Rules.{rules}
 use mathlib.Core.Path.{◌≡◌, sym, ap, ◌∙◌}
 use mathlib.Core.List.{List}
 use Prim.Native.Nat.{◌-◌, ◌≤◌}
@@ -7,7 +6,6 @@ use native.Mathlib.Omega.{arith}
 use lib.Ieee.{Float}
 use lib.ListN.{length}
 use Rattle.grid.specs.declared.Corner.{Corner}
-use Rattle.clip.specs.declared.poly.Polygon.{Polygon}
 use Rattle.clip.specs.declared.cut.Axis.TheVariants.{Z}
 use Rattle.clip.specs.Cut.{first_of}
 use Rattle.clip.specs.Poly.{held, polygon_of}
