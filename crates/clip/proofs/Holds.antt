@@ -10,11 +10,6 @@ use Rattle.std.specs.Int.{FitsUnsignedBits}
 use Rattle.clip.specs.Slices.{held_to, held_first}
 
 module _ (low high : ℕ) where
-  pub held_below : (z : ℤ) → lt_z z (pos 0) ≡ true → low ≡ held_to low high z
-  unfolding held_to
-  held_below (pos n) h = absurd (omega (arith, ltb-true n 0 h))
-  held_below (negsuc n) h = refl
-
   -- a number that is not negative, and one that is
   pub held_fit : (z : ℤ) → FitsUnsignedBits 32 z → max low (min (nat_abs z) high) ≡ held_to low high z
   unfolding held_to
@@ -62,9 +57,3 @@ first-unfit last (negsuc n) r h = refl
 pub nat_abs_le : (z : ℤ) → mag z < 2147483648 → FitsUnsignedBits 32 z → nat_abs z < 2147483648
 nat_abs_le (pos n) r h = omega arith
 nat_abs_le (negsuc n) r h = absurd h
-
--- a number of 32 bits stays one
-pub held_fits : (last : ℕ) (z : ℤ) → mag z < 2147483648 → held_to 0 last z < 2147483648
-unfolding held_to
-held_fits last (pos n) h = omega arith
-held_fits last (negsuc n) h = omega arith
