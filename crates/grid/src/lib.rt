@@ -36,6 +36,7 @@ pub enum GridError {
     GridSize(f32, f32),
 }
 
+// The limits of a coordinate, and below of a cell's sides: two functions, since no float can be a const parameter.
 pub fn coordinate(x: f32) -> bool
     ensures { result ≡ coordinate_ok x }
 {
