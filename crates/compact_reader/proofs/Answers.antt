@@ -1,12 +1,12 @@
 -- Two answers that say the same are the same, and each reader has one outcome.
-use Rattle.std.proofs.Common.{◌≡◌, ℕ, ◌<◌, ◌≤◌, true, cond, eqb, List, [], ◌∷◌, length, Result, Ok, Err, refl, sym, ap, ◌∙◌}
-use Rattle.replies.specs.Said.{Said, Value, whole, real, just}
+use Rattle.std.proofs.Common.{◌≡◌, ℕ, ◌<◌, ◌≤◌, true, cond, eqb, List, length, Result, Ok, Err, refl, sym, ap, ◌∙◌}
+use Rattle.replies.specs.Said.{Said, just}
 use Rattle.replies.proofs.Laws.{One, asks-one}
 use Rattle.grid.specs.declared.Grid.{Grid}
 use Rattle.grid.specs.declared.GridError.TheVariants.{BadNumber, BoxOrder, GridSize}
 use Rattle.grid.specs.Grid.{width, height, columns, grid_says}
 use Rattle.grid.specs.Directions.{stays}
-use Rattle.grid.proofs.Answers.{read_back}
+use Rattle.grid.proofs.Answers.{read_back, whole_of, rest_of}
 use Rattle.compact_cell.specs.declared.CompactCell.{CompactCell}
 use Rattle.compact_cell.specs.Cell.{cell_of}
 use Rattle.compact_reader.specs.declared.Neighbour.{Neighbour}
@@ -31,15 +31,6 @@ refusal-back (refusal.Grid (GridSize w h)) = refl
 refusal-back refusal.Slices = refl
 refusal-back refusal.OffGrid = refl
 refusal-back refusal.NoLink = refl
-
-abbrev whole_of : List Value → ℕ
-whole_of (whole n ∷ vs) = n
-whole_of (real x ∷ vs) = 0
-whole_of [] = 0
-
-abbrev rest_of : List Value → List Value
-rest_of (v ∷ vs) = vs
-rest_of [] = []
 
 abbrev cell_read : Said → Result CompactCell Refusal
 cell_read s =

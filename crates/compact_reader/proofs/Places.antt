@@ -13,7 +13,8 @@ module _ (g : Grid) (s : Size) (k : Accepted g × ((s.width ≡ width g) × (s.h
       let few : shortest < columns g = rw (k.1.0, k.1.1) at l in
       inr (k.0.taken, inl (λ q. omega arith, refl))
 
-  pub off_grid : s.width * s.height ≤ shortest → ((x < s.width) × (z < s.height) → ⊥) → Reads g (columns g ≤ shortest) x z (λ (o : Said). ⊥) (just 8)
+  pub off_grid : s.width * s.height ≤ shortest → ((x < s.width) × (z < s.height) → ⊥)
+      → Reads g (columns g ≤ shortest) x z (λ (o : Said). ⊥) (just 8)
   off_grid l o = inr (k.0.taken, inr (rw (k.1.0, k.1.1) at l, inl (rw (k.1.0, k.1.1) at o, refl)))
 
   pub stands : (i : ℕ) → s.width * s.height ≤ shortest

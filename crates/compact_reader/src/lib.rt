@@ -1,6 +1,6 @@
 #![tactic(auto)]
 // The readers of a compact result over its lent slices: the cell of a column, and the span to which a link leads. They check the place that they are
-// given, and take what stands in the slices as it is.
+// given, and take what stands in the slices as it is. The slices lie beside one another, as the rules lend them (docs/RULES.md).
 ghost use Rattle.compact_reader.specs.Answer.{said_of_cell_at, said_of_con_indices};
 ghost use Rattle.compact_reader.specs.Reading.{CellAtSays, ConIndicesSays, Locates};
 

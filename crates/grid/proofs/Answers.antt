@@ -29,16 +29,18 @@ same-size a b p q = go p q b.few
     go : {w h : ℕ} → a.width ≡ w → a.height ≡ h → (f : w * h ≤ 1048576) → a ≡ record { width = w; height = h; few = f }
     go {w} {h} p q =
         let P : ℕ → ℕ → Type 0 = λ w h. (f : w * h ≤ 1048576) → a ≡ record { width = w; height = h; few = f } in
-        subst (λ (w : ℕ). P w h) p (subst (λ (h : ℕ). P a.width h) q (λ f. ap (λ (g : a.width * a.height ≤ 1048576). record { width = a.width; height = a.height; few = g }) (le_prop a.few f)))
+        let build : (a.width * a.height ≤ 1048576) → Size = λ f. record { width = a.width; height = a.height; few = f } in
+        subst (λ (w : ℕ). P w h) p (subst (λ (h : ℕ). P a.width h) q (λ f. ap build (le_prop a.few f)))
 
-first_of : List Value → ℕ
-first_of (whole w ∷ vs) = w
-first_of (real x ∷ vs) = 0
-first_of [] = 0
+-- the first of some values, if it is a whole number, and what follows it
+abbrev pub whole_of : List Value → ℕ
+whole_of (whole n ∷ vs) = n
+whole_of (real x ∷ vs) = 0
+whole_of [] = 0
 
-second_of : List Value → ℕ
-second_of (v ∷ vs) = first_of vs
-second_of [] = 0
+abbrev pub rest_of : List Value → List Value
+rest_of (v ∷ vs) = vs
+rest_of [] = []
 
 -- ---- an answer is accepted or refused, and says which by its number
 
@@ -48,9 +50,8 @@ is_refusal BoxOrder q = omega (arith, q)
 is_refusal (GridSize w h) q = omega (arith, q)
 
 pub said-once : (a b : Result Size GridError) → said_of a ≡ said_of b → a ≡ b
-unfolding first_of second_of
 said-once (Ok s) (Ok t) q =
-    ap Ok (same-size s t (ap (λ (r : Said). first_of r.values) q) (ap (λ (r : Said). second_of r.values) q))
+    ap Ok (same-size s t (ap (λ (r : Said). whole_of r.values) q) (ap (λ (r : Said). whole_of (rest_of r.values)) q))
 said-once (Ok s) (Err e) q = absurd (is_refusal e (sym (ap (λ (r : Said). r.number) q)))
 said-once (Err e) (Ok s) q = absurd (is_refusal e (ap (λ (r : Said). r.number) q))
 said-once (Err d) (Err e) q = ap Err (sym (same d) ∙ ap (λ (r : Said). read_back r.values) q ∙ same e)

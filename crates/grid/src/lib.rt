@@ -36,6 +36,7 @@ pub enum GridError {
     GridSize(f32, f32),
 }
 
+// The limits of a coordinate, and below of a cell's sides: two functions, since no float can be a const parameter.
 pub fn coordinate(x: f32) -> bool
     ensures { result ≡ coordinate_ok x }
 {
@@ -101,10 +102,13 @@ fn size(g: Grid) -> Result<Size, GridError>
 {
     let w = side_length(g.min.x, g.max.x, g.cell_size);
     let h = side_length(g.min.z, g.max.z, g.cell_size);
-    match (cell_count(w), cell_count(h)) {
-        (Some(width), Some(height)) if width * height <= 1048576 => Ok(Size { width, height }),
-        _ => Err(GridError::GridSize(w, h)),
+    let refused = GridError::GridSize(w, h);
+    let width = cell_count(w).ok_or(refused)?;
+    let height = cell_count(h).ok_or(refused)?;
+    if width * height > 1048576 {
+        return Err(refused);
     }
+    Ok(Size { width, height })
 }
 
 // The tests that stand before all others in every call that takes a grid.

@@ -84,6 +84,7 @@ pub fn ceil(x: f32) -> i32
     rounded::<true, false>(x)
 }
 
+// The lesser and the greater are two functions: with one, and a parameter for the side, the comparison would be no plainer.
 #[tactic(auto, unfolding(crate::specs::Order::lesser_of))]
 pub fn lesser(a: f32, b: f32) -> f32
     ensures { result ≡ lesser_of a b }

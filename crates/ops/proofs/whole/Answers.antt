@@ -1,5 +1,5 @@
 -- What `scaled` gives, over 2 ^ 23, is x's fraction, and so is the whole number at or above both, and the one at or below.
-use Rattle.std.proofs.Common.{◌≡◌, ℕ, ◌*◌, ◌/◌, ◌^◌, ◌<◌, Bool, true, false, not, eqb, pos, sym, refl, ap, ◌∙◌, pow_pos, w32, arith}
+use Rattle.std.proofs.Common.{◌≡◌, ℕ, ◌*◌, ◌/◌, ◌^◌, ◌<◌, Bool, true, false, not, eqb, pos, sym, refl, ap, ◌∙◌, pow_pos, w32, rules}
 use lib.Ieee.Nearest.{div_same}
 use lib.Ieee.Positive.{num, den, den_pos}
 use mir.ValLaws.{to_z_pos}
@@ -10,11 +10,7 @@ use Rattle.ops.proofs.whole.Goals as goal
 use Rattle.ops.proofs.whole.Goals.{then-this-ne0, else-this-ne0}
 
 pub overflow_cast-result : goal.overflow_cast-result
-overflow_cast-result g c =
-    elim c.if-this-ne0.branch [
-      | then-this-ne0 w ↦ record { sfits = omega (arith, w.raised-is, c.scaled-parts.ensures.room) }
-      | else-this-ne0 w ↦ record { sfits = omega (arith, w.raised-is, c.scaled-parts.ensures.room) }
-    ]
+overflow_cast-result g c = search rules
 
 same_fraction : (f : Bool) (a b c d : ℕ) → 0 < b → 0 < d → a * d ≡ c * b → fraction f a b ≡ fraction f c d
 same_fraction true a b c d B D e = away-same a b c d B D e
