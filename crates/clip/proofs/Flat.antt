@@ -1,25 +1,18 @@
 -- Along x a vertex's z counts for nothing: a polygon and the same polygon with 0 for every z have, but for z, the same parts, and a row or a cell makes the same of both.
 use mathlib.Core.Path.{◌≡◌, refl, sym, ap, ◌∙◌}
-use mathlib.Core.Bool.{Bool, true, false, not, ◌&&◌, cond}
+use mathlib.Core.Bool.{Bool, true, false, ◌&&◌, cond}
 use mathlib.Core.List.{List, [], ◌∷◌, map, map-append}
-use Prim.Native.Nat.{ℕ, zero, suc, ◌-◌, ◌≤◌}
-use native.Mathlib.Omega.{arith}
+use Prim.Native.Nat.{ℕ, zero, suc, ◌-◌}
 use lib.Dec.{leb}
 use lib.IntN.{ℤ, pos, negsuc, suc_ℤ}
 use lib.ListN.{length, length-map}
-use lib.Seq.{sets, length-sets}
 use lib.Ieee.{Float, le, lt}
-use borrow.Author.Tests.{le-leb}
 use Rattle.grid.specs.declared.Corner.{Corner}
 use Rattle.clip.specs.declared.cut.Axis.TheVariants.{X}
 use Rattle.clip.specs.declared.frame.Frame.{Frame}
-use Rattle.clip.specs.Cut.{nought, x_of, y_of, z_of, along, distance, crossing_of, agree, joining, to_first, to_second, onward, last_of, around, gives_first, gives_second, first_of, second_of, most_vertices, fitting, parts, eighth, cut_of}
-use Rattle.clip.specs.Arrays.{arrays, numbers_at, polygon_at, half, counts_of}
-use Rattle.clip.specs.Cell.{flat_at, piece, piece_of, Celled, celled, cell_cut_of}
+use Rattle.clip.specs.Cut.{nought, y_of, along, distance, crossing_of, agree, joining, to_first, to_second, onward, last_of, around, gives_first, gives_second, first_of, second_of, most_vertices, fitting, parts, eighth, cut_of}
 use Rattle.clip.specs.Slices.{held_first, held_last}
 use Rattle.clip.specs.Work.{Event, on_cut, slices, within, from_to, first_cell, last_cell, edge_at, cell_events, row_events}
-use Rattle.clip.proofs.Places.{read_back_lem}
-use Rattle.clip.proofs.Turns.{halves}
 
 -- a vertex with 0 for its z, and a polygon of such
 abbrev pub flat : Corner → Corner
@@ -142,61 +135,3 @@ module _ (f : Frame) (z : ℕ) where
         flat_map (along X) (λ v. refl) vs,
         slices-blind (λ at. edge_at f X at) (λ at part. within (cell_events f z) at part) (within-blind (cell_events f z) cell-blind) (from_to first last) first vs,
       )
-
--- ---- polygons in two arrays
-
-pub flat-polygon : (xs ys zs : List Float) (from n : ℕ) → flatten (polygon_at (arrays xs ys zs) from n) ≡ flat_at xs ys from n
-flat-polygon xs ys zs from zero = refl
-flat-polygon xs ys zs from (suc n) = rw (flat-polygon xs ys zs (suc from) n)
-
-pub xs-at : (xs ys : List Float) (from n : ℕ) → map x_of (flat_at xs ys from n) ≡ numbers_at xs from n
-xs-at xs ys from zero = refl
-xs-at xs ys from (suc n) = rw (xs-at xs ys (suc from) n)
-
-pub length_at : (xs ys : List Float) (from n : ℕ) → length (flat_at xs ys from n) ≡ n
-length_at xs ys from zero = refl
-length_at xs ys from (suc n) = ap suc (length_at xs ys (suc from) n)
-
-module _ (upper : Bool) (n : ℕ) (offset : Float) (xs ys : List Float) (δ : Celled) (e : δ ≡ cell_cut_of upper n offset xs ys) where
-  abbrev first : List Corner
-  first = first_of X offset (flat_at xs ys (half upper) n)
-
-  abbrev second : List Corner
-  second = second_of X offset (flat_at xs ys (half upper) n)
-
-  abbrev left : Bool → Celled
-  left fits =
-      cond fits (celled (piece_of first second) (sets xs (half (not upper)) (map x_of second)) (sets ys (half (not upper)) (map y_of second)))
-      (celled (piece (counts_of 8 8) nought nought) xs ys)
-
-  -- the arrays keep their lengths
-  pub xs-long : length δ.xs ≡ length xs
-  unfolding cell_cut_of
-  xs-long = rw e (go (leb n 7))
-    where
-      go : (fits : Bool) → length (left fits).xs ≡ length xs
-      go true = length-sets xs (half (not upper)) (map x_of second)
-      go false = refl
-
-  pub ys-long : length δ.ys ≡ length ys
-  unfolding cell_cut_of
-  ys-long = rw e (go (leb n 7))
-    where
-      go : (fits : Bool) → length (left fits).ys ≡ length ys
-      go true = length-sets ys (half (not upper)) (map y_of second)
-      go false = refl
-
-  module _ (few : n ≤ 7) where
-    done : δ ≡ left true
-    unfolding cell_cut_of
-    done = e ∙ rw (le-leb n 7 few)
-
-    pub kept-is : δ.kept ≡ piece_of first second
-    kept-is = ap (λ (d : Celled). d.kept) done
-
-    -- the second part stands in the other half
-    pub left-flat : length xs ≡ 28 → length ys ≡ 28 → length second ≤ 14 → flat_at δ.xs δ.ys (half (not upper)) (length second) ≡ flatten second
-    left-flat lx ly fits =
-        let a = arrays xs ys xs in
-        rw (done, ← flat-polygon (left true).xs (left true).ys (sets xs (half (not upper)) (map z_of second)) (half (not upper)) (length second))
-        (ap flatten (read_back_lem 28 a (half (not upper)) second (record { xs-long = lx; ys-long = ly; zs-long = lx }) (omega (arith, (halves upper).writes))))

@@ -1,27 +1,24 @@
--- Of numbers put together from the first on: the loop that does it.
-use mathlib.Core.Path.{◌≡◌, ap}
-use mathlib.Core.List.{List, foldl}
-use Prim.Native.Nat.{ℕ, suc, ◌+◌, ◌-◌, ◌≤◌, ◌<◌}
-use native.Mathlib.Numerals.{add-one}
+-- Of numbers put together from the first on: what none come to, and what the first and the rest come to.
+use mathlib.Core.Path.{◌≡◌, refl}
+use mathlib.Core.List.{List, [], ◌∷◌, map, foldl}
+use Prim.Native.Nat.{ℕ, ◌≤◌}
 use native.Mathlib.Omega.{arith}
-use lib.ListN.{get_or}
-use lib.Ieee.{Float, nan}
-use Rattle.clip.specs.Arrays.{numbers_at}
+use lib.Ieee.{Float}
+use lib.ListN.{length, take}
+use lib.Seq.{take-length}
+use Rattle.grid.specs.declared.Corner.{Corner}
+use Rattle.clip.specs.Cut.{nought}
 use Rattle.clip.specs.Slices.{together}
 
-module _ (choice : Float → Float → Float) (v : List Float) (m : ℕ) where
-  pub fold_start : 0 < m → together choice (numbers_at v 0 m) ≡ foldl choice (get_or v 0 nan) (numbers_at v 1 (m - 1))
+module _ (choice : Float → Float → Float) (read : Corner → Float) where
+  pub together-none : (vs : List Corner) → length vs ≡ 0 → nought ≡ together choice (map read vs)
   unfolding together
-  fold_start h =
-      let e : m ≡ suc (m - 1) = omega arith in
-      ap (λ (k : ℕ). together choice (numbers_at v 0 k)) e
+  together-none [] h = refl
+  together-none (v ∷ vs) h = absurd (omega (arith, h))
 
-  pub fold-turn : (i : ℕ) (y : Float) → i < m → foldl choice (choice y (get_or v i nan)) (numbers_at v (i + 1) (m - (i + 1))) ≡ foldl choice y (numbers_at v i (m - i))
-  fold-turn i y h =
-      let e : m - i ≡ suc (m - (i + 1)) = omega arith in
-      rw (e, add-one i)
-
-  pub fold_end : (i : ℕ) (y : Float) → m ≤ i → y ≡ foldl choice y (numbers_at v i (m - i))
-  fold_end i y h =
-      let e : m - i ≡ 0 = omega arith in
-      rw e
+  pub together-all : (vs : List Corner) (v : Corner) (rest : List Corner) → vs ≡ v ∷ rest → (i : ℕ) → i ≤ length rest → length rest ≤ i → {y : Float} → y ≡ read v
+      → foldl choice y (map read (take i rest)) ≡ together choice (map read vs)
+  unfolding together
+  together-all vs v rest e i h k f =
+      let n : i ≡ length rest = omega arith in
+      rw (e, f, n, take-length rest)

@@ -3,32 +3,23 @@ use mathlib.Core.Path.{◌≡◌, refl, ap}
 use mathlib.Core.Bool.{true, false, true≢false}
 use Prim.Native.Nat.{ℕ, ◌≤◌, ◌<◌, min, max}
 use native.Mathlib.Omega.{arith}
-use lib.Dec.{T}
 use lib.IntN.{ℤ, pos, negsuc, nat_abs}
-use lib.Signed.{lt_z, non_neg, mag}
+use lib.Signed.{lt_z, mag}
 use borrow.Author.Tests.{ltb-true}
+use Rattle.std.specs.Int.{FitsUnsignedBits}
 use Rattle.clip.specs.Slices.{held_to, held_first}
 
 module _ (low high : ℕ) where
-  pub held_below : (z : ℤ) → lt_z z (pos 0) ≡ true → low ≡ held_to low high z
+  -- a number that is not negative, and one that is
+  pub held_fit : (z : ℤ) → FitsUnsignedBits 32 z → max low (min (nat_abs z) high) ≡ held_to low high z
   unfolding held_to
-  held_below (pos n) h = absurd (omega (arith, ltb-true n 0 h))
-  held_below (negsuc n) h = refl
+  held_fit (pos n) h = refl
+  held_fit (negsuc n) h = absurd h
 
-  pub held_low : (z : ℤ) → low ≤ high → lt_z z (pos 0) ≡ false → nat_abs z < low → low ≡ held_to low high z
+  pub held-unfit : (z : ℤ) → mag z < 2147483648 → (FitsUnsignedBits 32 z → ⊥) → low ≡ held_to low high z
   unfolding held_to
-  held_low (pos n) o h k = omega arith
-  held_low (negsuc n) o h k = refl
-
-  pub held_high : (z : ℤ) → low ≤ high → lt_z z (pos 0) ≡ false → high < nat_abs z → high ≡ held_to low high z
-  unfolding held_to
-  held_high (pos n) o h k = omega arith
-  held_high (negsuc n) o h k = absurd (true≢false h)
-
-  pub held-inside : (z : ℤ) → lt_z z (pos 0) ≡ false → low ≤ nat_abs z → nat_abs z ≤ high → nat_abs z ≡ held_to low high z
-  unfolding held_to
-  held-inside (pos n) h k m = omega arith
-  held-inside (negsuc n) h k m = absurd (true≢false h)
+  held-unfit (pos n) r h = absurd (h (omega arith))
+  held-unfit (negsuc n) r h = refl
 
   pub held-le : (z : ℤ) → low ≤ high → held_to low high z ≤ high
   unfolding held_to
@@ -39,14 +30,6 @@ module _ (low high : ℕ) where
   unfolding held_to
   held-ge (pos n) = omega arith
   held-ge (negsuc n) = omega arith
-
-pub not-below : (z : ℤ) → lt_z z (pos 0) ≡ false → T (non_neg z)
-not-below (pos n) h = tt
-not-below (negsuc n) h = absurd (true≢false h)
-
-pub nat_abs_le : (z : ℤ) → mag z < 2147483648 → nat_abs z ≤ 2147483648
-nat_abs_le (pos n) h = omega arith
-nat_abs_le (negsuc n) h = omega arith
 
 -- ---- the first row or column
 pub first_below : (last : ℕ) (z : ℤ) → lt_z z (pos 0) ≡ true → negsuc 0 ≡ held_first last z
@@ -61,8 +44,16 @@ first-inside last (pos n) h =
     ap pos e
 first-inside last (negsuc n) h = absurd (true≢false h)
 
--- a number of 32 bits stays one
-pub held_fits : (last : ℕ) (z : ℤ) → mag z < 2147483648 → held_to 0 last z < 2147483648
-unfolding held_to
-held_fits last (pos n) h = omega arith
-held_fits last (negsuc n) h = omega arith
+pub first-fit : (last : ℕ) (z : ℤ) → FitsUnsignedBits 32 z → pos (min (nat_abs z) last) ≡ held_first last z
+unfolding held_first
+first-fit last (pos n) h = refl
+first-fit last (negsuc n) h = absurd h
+
+pub first-unfit : (last : ℕ) (z : ℤ) → mag z < 2147483648 → (FitsUnsignedBits 32 z → ⊥) → negsuc 0 ≡ held_first last z
+unfolding held_first
+first-unfit last (pos n) r h = absurd (h (omega arith))
+first-unfit last (negsuc n) r h = refl
+
+pub nat_abs_le : (z : ℤ) → mag z < 2147483648 → FitsUnsignedBits 32 z → nat_abs z < 2147483648
+nat_abs_le (pos n) r h = omega arith
+nat_abs_le (negsuc n) r h = absurd h

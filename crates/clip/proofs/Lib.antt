@@ -1,8 +1,5 @@
-pub mod Places
-pub mod Turns
 pub mod Rounds
-pub mod CellRounds
-pub mod Cuts
+pub mod Parts
 pub mod Polys
 pub mod Folds
 pub mod Holds

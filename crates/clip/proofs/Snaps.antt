@@ -11,35 +11,38 @@ use Rattle.replies.specs.Said.{Said, Value, whole, real}
 use Rattle.ops.specs.Round.{ceil_to}
 use Rattle.ops.specs.Order.{lesser_of}
 use Rattle.clip.specs.Cut.{nought}
-use Rattle.clip.specs.Snap.{low, high, outside, floor_of, ceiling_of, snapped, snap_says, said_of}
-use Rattle.clip.specs.declared.heights.Snap.{Snap}
-use Rattle.clip.specs.declared.heights.Snap.TheVariants.{Outside, TooHigh, Span}
+use Rattle.std.specs.Prelude.{Some, None, Ok, Err}
+use Rattle.clip.specs.declared.heights.Heights.{Heights}
+use Rattle.clip.specs.Snap.{Snap, low, high, outside, floor_of, ceiling_of, snapped, snap_says, said_of}
 use Rattle.clip.proofs.Holds.{held-le, held-ge}
 
 -- ---- two answers that say the same are the same: an answer can be read back from what it says
+abbrev span_of : ℕ → ℕ → Snap
+span_of floor ceiling = Ok (Some (record { floor = floor; ceiling = ceiling }))
+
 abbrev read_back : Said → Snap
 read_back s = read s.number s.values
   where
     read : ℕ → List Value → Snap
-    read n [] = cond (eqb n 7) TooHigh Outside
-    read n (whole floor ∷ whole ceiling ∷ vs) = Span floor ceiling
-    read n (whole floor ∷ []) = Outside
-    read n (whole floor ∷ real x ∷ vs) = Outside
-    read n (real x ∷ vs) = Outside
+    read n [] = cond (eqb n 7) (Err (record {})) (Ok None)
+    read n (whole floor ∷ whole ceiling ∷ vs) = span_of floor ceiling
+    read n (whole floor ∷ []) = Ok None
+    read n (whole floor ∷ real x ∷ vs) = Ok None
+    read n (real x ∷ vs) = Ok None
 
 same : (r : Snap) → read_back (said_of r) ≡ r
-same Outside = refl
-same TooHigh = refl
-same (Span floor ceiling) = refl
+same (Ok None) = refl
+same (Err e) = refl
+same (Ok (Some h)) = refl
 
 pub said-once : (a b : Snap) → said_of a ≡ said_of b → a ≡ b
 said-once a b e = sym (same a) ∙ ap read_back e ∙ same b
 
 -- what is given for an answer
 abbrev pub on_snap : {A : Type 0} → Snap → A → A → (ℕ → ℕ → A) → A
-on_snap Outside nothing atTop span = nothing
-on_snap TooHigh nothing atTop span = atTop
-on_snap (Span floor ceiling) nothing atTop span = span floor ceiling
+on_snap (Ok None) nothing atTop span = nothing
+on_snap (Err e) nothing atTop span = atTop
+on_snap (Ok (Some h)) nothing atTop span = span h.floor h.ceiling
 
 -- ---- the tests, one after the other
 module _ (largest : ℕ) (lowest highest bottom tall inverse : Float) where
@@ -105,20 +108,21 @@ module _ (largest : ℕ) (lowest highest bottom tall inverse : Float) where
 
   -- ---- what an answer of `snap_of` tells its caller
   module _ (r : Snap) (says : said_of r ≡ snap_says largest lowest highest bottom tall inverse) where
-    pub snap-is : r ≡ snapped largest lowest highest bottom tall inverse Outside TooHigh (λ m n. Span m n)
+    pub snap-is : r ≡ snapped largest lowest highest bottom tall inverse (Ok None) (Err (record {})) span_of
     snap-is = sym (same r) ∙ ap read_back says ∙ snapped-map read_back _ _ _
 
     pub snap-tells : {A : Type 0} (nothing atTop : A) (span : ℕ → ℕ → A) → on_snap r nothing atTop span ≡ snapped largest lowest highest bottom tall inverse nothing atTop span
     snap-tells nothing atTop span = ap (λ (s : Snap). on_snap s nothing atTop span) snap-is ∙ snapped-map (λ s. on_snap s nothing atTop span) _ _ _
 
     -- a span has some height, and stays below the largest
-    pub span-heights : (f c : ℕ) → r ≡ Span f c → (f < c) × (c ≤ largest)
-    span-heights f c e =
-        snapped-all (λ s. s ≡ Span f c → (f < c) × (c ≤ largest))
+    pub span-heights : (h : Heights) → r ≡ Ok (Some h) → (h.floor < h.ceiling) × (h.ceiling ≤ largest)
+    span-heights h e =
+        snapped-all (λ s. s ≡ Ok (Some h) → (h.floor < h.ceiling) × (h.ceiling ≤ largest))
         (λ q. let z : ◌≡◌ {A = ℕ} 0 1 = cc in absurd (omega arith))
         (λ q. let z : ◌≡◌ {A = ℕ} 0 1 = cc in absurd (omega arith))
-        (λ floor ceiling h k q.
-        let u : floor ≡ f = cc in
-        let v : ceiling ≡ c = cc in
+        (λ floor ceiling k m q.
+        let heights : record { floor = floor; ceiling = ceiling } ≡ h = cc in
+        let u : floor ≡ h.floor = ap (λ (g : Heights). g.floor) heights in
+        let v : ceiling ≡ h.ceiling = ap (λ (g : Heights). g.ceiling) heights in
         (omega arith, omega arith))
         (sym snap-is ∙ e)

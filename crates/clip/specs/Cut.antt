@@ -1,5 +1,5 @@
 -- The cut of a polygon, a list of vertices, along x or z (the rules, "Triangles to spans"). Definitions only.
-use Rattle.std.specs.Prelude.{ℕ, Bool, false, ◌&&◌, cond, List, [], ◌∷◌, ◌++◌, leb, length, pos, Float}
+use Rattle.std.specs.Prelude.{ℕ, Bool, false, ◌&&◌, cond, List, [], ◌∷◌, ◌++◌, leb, length, pos, Float, Result, Ok, Err}
 use Rattle.std.specs.Bool.{beq}
 use Rattle.std.specs.Float.{fin, binary32}
 use Rattle.std.specs.Float.Ieee.{le, lt, add, sub, mul, div}
@@ -7,6 +7,7 @@ use Rattle.replies.specs.Said.{Said, just}
 use Rattle.grid.specs.declared.Corner.{Corner}
 use Rattle.clip.specs.declared.cut.Axis.{Axis}
 use Rattle.clip.specs.declared.cut.Axis.TheVariants.{X, Z}
+use Rattle.clip.specs.declared.cut.EighthVertex.{EighthVertex}
 
 abbrev pub nought : Float
 nought = fin false 0 (pos 0)
@@ -95,6 +96,15 @@ cut_of axis offset vs =
     (parts (first_of axis offset vs) (second_of axis offset vs))
     eighth
 
+-- a polygon that has more than 7 vertices is refused as one whose cut would write an eighth
+unfoldable pub slice_cut : Axis → Float → List Corner → Cut
+slice_cut axis offset vs = cond (fitting vs) (cut_of axis offset vs) eighth
+
 abbrev pub cut_says : Cut → Said
 cut_says (parts first second) = just 0
 cut_says eighth = just 6
+
+-- ---- the verdict that code gives
+abbrev pub verdict_of : Cut → Result (Unit {0}) EighthVertex
+verdict_of (parts first second) = Ok tt
+verdict_of eighth = Err (record {})

@@ -1,6 +1,6 @@
 pub mod Cut
-pub mod Arrays
 pub mod Poly
+pub mod Rest
 pub mod Slices
 pub mod Cell
 pub mod Snap

@@ -1,12 +1,12 @@
--- Polygons by value: up to 7 vertices in an array, and what `divide_poly` answers. Definitions only.
-use Rattle.std.specs.Prelude.{◌≡◌, cond, List, [], leb, length, take, replicate, Float}
+-- Polygons by value: up to 7 vertices in an array, and what `divide_poly` answers; a part that is written down, up to 14. Definitions only.
+use Rattle.std.specs.Prelude.{◌≡◌, refl, cond, List, [], leb, length, take, replicate, Float, Result, Ok, Err}
 use Rattle.std.proofs.lemmas.List.Edits.{sets}
 use Rattle.replies.specs.Said.{Said, just}
 use Rattle.grid.specs.declared.Corner.{Corner}
 use Rattle.clip.specs.declared.cut.Axis.{Axis}
+use Rattle.clip.specs.declared.cut.EighthVertex.{EighthVertex}
 use Rattle.clip.specs.declared.poly.Poly.{Poly}
-use Rattle.clip.specs.declared.poly.CutReply.{CutReply}
-use Rattle.clip.specs.declared.poly.CutReply.TheVariants.{Fine, EighthVertex}
+use Rattle.clip.specs.declared.poly.Polygon.{Polygon}
 use Rattle.clip.specs.declared.poly.Parts.{Parts}
 use Rattle.clip.specs.Cut.{nought, most_vertices, Cut, parts, eighth, cut_of, cut_says}
 
@@ -24,20 +24,31 @@ poly_of vs = record { at = sets (replicate most_vertices origin) 0 vs; n = lengt
 unfoldable pub poly_cut : Axis → Float → Poly → Cut
 poly_cut axis offset p = cond (leb p.n most_vertices) (cut_of axis offset (vertices_of p)) eighth
 
--- ---- the answer: what it says, and both parts, which are empty at reply 6
-abbrev pub said_of : CutReply → Said
-said_of Fine = just 0
-said_of EighthVertex = just 6
+-- ---- the answer: what it says, and both parts
+abbrev pub said_of : Result Parts EighthVertex → Said
+said_of (Ok p) = just 0
+said_of (Err e) = just 6
 
-abbrev pub first_poly : Cut → Poly
-first_poly (parts first second) = poly_of first
-first_poly eighth = poly_of []
+abbrev pub PartsAre : Cut → Result Parts EighthVertex → Type 0
+PartsAre (parts first second) (Ok p) = (p.first ≡ poly_of first) × (p.second ≡ poly_of second)
+PartsAre (parts first second) (Err e) = ⊥
+PartsAre eighth (Ok p) = ⊥
+PartsAre eighth (Err e) = Unit {0}
 
-abbrev pub second_poly : Cut → Poly
-second_poly (parts first second) = poly_of second
-second_poly eighth = poly_of []
+pub record Answers (cut : Cut) (r : Result Parts EighthVertex) : Type 0 where
+  pub said : said_of r ≡ cut_says cut
+  pub parts-are : PartsAre cut r
 
-pub record Answers (cut : Cut) (r : Parts) : Type 0 where
-  pub said : said_of r.reply ≡ cut_says cut
-  pub first-is : r.first ≡ first_poly cut
-  pub second_is : r.second ≡ second_poly cut
+-- ---- a part that is written down: what it holds, and what it is with other vertices from its first place on
+abbrev pub held : Polygon → List Corner
+held p = take p.n p.at
+
+abbrev pub polygon_of : Polygon → List Corner → Polygon
+polygon_of p vs = record { at = sets p.at 0 vs; n = length vs }
+
+-- until it has all its vertices, it still has as many as it had
+abbrev pub polygon_holding : Polygon → List Corner → Polygon
+polygon_holding p vs = record { at = sets p.at 0 vs; n = p.n }
+
+pub polygon_none : (p : Polygon) → p ≡ polygon_holding p []
+polygon_none p = refl

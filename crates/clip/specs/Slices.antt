@@ -1,9 +1,10 @@
 -- From a polygon's coordinates to the rows and columns that it meets, and where they end (the rules, "Triangles to spans"). Definitions only.
-use Rattle.std.specs.Prelude.{ℕ, min, max, ℤ, pos, negsuc, Float}
+use Rattle.std.specs.Prelude.{◌≡◌, ℕ, min, max, ℤ, pos, negsuc, Float}
 use mathlib.Core.List.{List, [], ◌∷◌, foldl}
 use Rattle.std.specs.Float.{binary32}
 use Rattle.std.specs.Float.Ieee.{add, sub, mul, of_int, to_signed}
 use Rattle.ops.specs.Order.{lesser_of, greater_of}
+use Rattle.grid.specs.declared.Corner.{Corner}
 use Rattle.clip.specs.Cut.{nought}
 
 -- numbers put together two by two, from the first on; none give 0
@@ -16,6 +17,13 @@ least_of vs = together lesser_of vs
 
 abbrev pub greatest_of : List Float → Float
 greatest_of vs = together greater_of vs
+
+-- a closure answers as a function of vertices, or of two numbers
+abbrev pub Reads : (Corner → Float → Type 0) → (Corner → Float) → Type 0
+Reads answers g = (v : Corner) (r : Float) → answers v r → r ≡ g v
+
+abbrev pub Chooses : (Float → Float → Float → Type 0) → (Float → Float → Float) → Type 0
+Chooses answers h = (a b r : Float) → answers a b r → r ≡ h a b
 
 -- the number of the row or column that a coordinate lies in, counted from where the box starts
 abbrev pub cell_of : Float → Float → Float → ℤ

@@ -1,5 +1,5 @@
 -- The snap of a cell's part to whole heights, with reply 7 (the rules, "Triangles to spans"). Definitions only.
-use Rattle.std.specs.Prelude.{ℕ, ◌+◌, Bool, ◌||◌, cond, [], ◌∷◌, eqb, Float}
+use Rattle.std.specs.Prelude.{ℕ, ◌+◌, Bool, ◌||◌, cond, [], ◌∷◌, eqb, Float, Option, Some, None, Result, Ok, Err}
 use Rattle.std.specs.Float.{binary32}
 use Rattle.std.specs.Float.Ieee.{lt, sub, mul}
 use Rattle.replies.specs.Said.{Said, whole, say, just}
@@ -7,8 +7,8 @@ use Rattle.ops.specs.Round.{floor_to, ceil_to}
 use Rattle.ops.specs.Order.{lesser_of, greater_of}
 use Rattle.clip.specs.Cut.{nought}
 use Rattle.clip.specs.Slices.{held_to}
-use Rattle.clip.specs.declared.heights.Snap.{Snap}
-use Rattle.clip.specs.declared.heights.Snap.TheVariants.{Outside, TooHigh, Span}
+use Rattle.clip.specs.declared.heights.Heights.{Heights}
+use Rattle.clip.specs.declared.heights.TooHigh.{TooHigh}
 
 -- the largest height
 abbrev pub max_height : ℕ
@@ -39,7 +39,10 @@ module _ (largest : ℕ) (lowest highest bottom tall inverse : Float) where
   abbrev pub snap_says : Said
   snap_says = snapped (just 0) (just 7) (λ floor ceiling. say 0 (whole floor ∷ whole ceiling ∷ []))
 
+abbrev pub Snap : Type 0
+Snap = Result (Option Heights) TooHigh
+
 abbrev pub said_of : Snap → Said
-said_of Outside = just 0
-said_of TooHigh = just 7
-said_of (Span floor ceiling) = say 0 (whole floor ∷ whole ceiling ∷ [])
+said_of (Ok None) = just 0
+said_of (Ok (Some h)) = say 0 (whole h.floor ∷ whole h.ceiling ∷ [])
+said_of (Err e) = just 7

@@ -1,8 +1,7 @@
-// The cut of a polygon along x or z, over lent arrays: one array to a coordinate, in two halves of 14 places each.
-// A vertex gives at most two to a part, so the cut of 7 vertices fits a half, and no place is tested inside it.
-ghost use Rattle.std.specs.Prelude.{◌≡◌, [], ◌∷◌, ◌+◌, ◌≤◌, ◌<◌, length};
-ghost use Rattle.clip.specs.Cut.{along, crossing_of, joining, to_first, to_second, first_of, second_of};
-ghost use Rattle.clip.specs.Arrays.{arrays, vertex_at, polygon_at, written, half, Apart, counts_of, divided, divide_of, grown};
+// The cut of a polygon along x or z: what its vertices, one after another, give to either side.
+ghost use Rattle.std.specs.Prelude.{◌≡◌, [], ◌∷◌, ◌++◌, ◌+◌, ◌≤◌, ◌<◌, List, ℕ, length, cond};
+ghost use Rattle.grid.specs.declared.Corner.{Corner};
+ghost use Rattle.clip.specs.Cut.{along, crossing_of, joining, to_first, to_second, first_of, second_of, fitting, verdict_of, slice_cut};
 
 use grid::Corner;
 
@@ -12,11 +11,34 @@ pub enum Axis {
     Z,
 }
 
+// Reply 6: a cut would give a part an eighth vertex.
+#[derive(Clone, Copy)]
+pub struct EighthVertex;
+
 // How many vertices each part of a cut has.
 #[derive(Clone, Copy)]
-pub struct Counts {
-    pub first: usize,
-    pub second: usize,
+struct Counts {
+    first: usize,
+    second: usize,
+}
+
+// A part of a cut, which is given its vertices one after another, and at last how many there were. What it keeps of them is its own affair:
+// `made` says what it then is, whatever it was before, and `holding` what it is until then.
+pub trait Part {
+    ghost holding: { Self → List Corner → Self };
+
+    ghost made: { Self → List Corner → Self };
+
+    // The vertex v, after `at` others.
+    fn put(&mut self, at: usize, v: Corner)
+        requires { at < 14 }
+        ensures { (s : Self) (vs : List Corner) → length vs ≡ at → self.old ≡ holding s vs → self.new ≡ holding s (vs ++ v ∷ []) };
+
+    // There were n.
+    fn end(&mut self, n: usize)
+        ensures { (s : Self) (vs : List Corner) → length vs ≡ n → self.old ≡ holding s vs → self.new ≡ made s vs };
+
+    ghost holding_none: { (s : Self) → s ≡ holding s [] };
 }
 
 fn coordinate(v: Corner, axis: Axis) -> f32
@@ -29,7 +51,7 @@ fn coordinate(v: Corner, axis: Axis) -> f32
 }
 
 // b + (a - b) * s, with s = db / (db - da).
-pub(crate) fn crossing(b: Corner, a: Corner, db: f32, da: f32) -> Corner
+fn crossing(b: Corner, a: Corner, db: f32, da: f32) -> Corner
     ensures { result ≡ crossing_of b a db da }
 {
     let s = db / (db - da);
@@ -40,182 +62,117 @@ pub(crate) fn crossing(b: Corner, a: Corner, db: f32, da: f32) -> Corner
     }
 }
 
-pub(crate) fn get_vertex(xs: &[f32; 28], ys: &[f32; 28], zs: &[f32; 28], at: usize) -> Corner
-    requires { at < 28 }
-    ensures { result ≡ vertex_at (arrays xs.now ys.now zs.now) at }
-{
-    Corner {
-        x: xs[at],
-        y: ys[at],
-        z: zs[at],
-    }
-}
-
-pub(crate) fn put_vertex(
-    xs: &mut [f32; 28],
-    ys: &mut [f32; 28],
-    zs: &mut [f32; 28],
-    at: usize,
-    v: Corner,
-)
-    requires { at < 28 }
-    ensures { arrays xs.new ys.new zs.new ≡ written (arrays xs.old ys.old zs.old) at (v ∷ []) }
-{
-    xs[at] = v.x;
-    ys[at] = v.y;
-    zs[at] = v.z;
-}
-
-// The vertex v, where it joins; how many vertices that makes.
-fn put_if(
-    xs: &mut [f32; 28],
-    ys: &mut [f32; 28],
-    zs: &mut [f32; 28],
-    at: usize,
-    v: Corner,
-    joins: bool,
-) -> usize
-    requires { at < 28 }
-    ensures { (result ≡ length (joining joins v))
-        × (arrays xs.new ys.new zs.new ≡ written (arrays xs.old ys.old zs.old) at (joining joins v)) }
+// The vertex v, where it joins; how many vertices the part then has.
+fn put_if<P: Part>(part: &mut P, at: usize, v: Corner, joins: bool) -> usize
+    requires { at < 14 }
+    ensures count { result ≡ at + length (joining joins v) }
+    ensures part { (s : P) (vs : List Corner) → length vs ≡ at → part.old ≡ P.holding s vs → part.new ≡ P.holding s (vs ++ joining joins v) }
 {
     if joins {
-        put_vertex(xs, ys, zs, at, v);
-        return 1;
+        part.put(at, v);
+        return at + 1;
     }
-    0
+    at
 }
 
 // The vertex v for the parts that the two flags name.
-fn join(
-    xs: &mut [f32; 28],
-    ys: &mut [f32; 28],
-    zs: &mut [f32; 28],
-    rx: &mut [f32; 28],
-    ry: &mut [f32; 28],
-    rz: &mut [f32; 28],
-    to: usize,
-    p: Counts,
+fn join<F: Part, S: Part>(
+    first: &mut F,
+    second: &mut S,
+    n: Counts,
     v: Corner,
-    first: bool,
-    second: bool,
+    to_first: bool,
+    to_second: bool,
 ) -> Counts
-    requires { (p.first < 28) × (to + p.second < 28) }
-    ensures { divided result (arrays xs.new ys.new zs.new) (arrays rx.new ry.new rz.new)
-        ≡ grown to (divided p (arrays xs.old ys.old zs.old) (arrays rx.old ry.old rz.old))
-        (joining first v) (joining second v) }
+    requires { (n.first < 14) × (n.second < 14) }
+    ensures counts { (result.first ≡ n.first + length (joining to_first v)) × (result.second ≡ n.second + length (joining to_second v)) }
+    ensures first { (s : F) (vs : List Corner) → length vs ≡ n.first → first.old ≡ F.holding s vs → first.new ≡ F.holding s (vs ++ joining to_first v) }
+    ensures second { (s : S) (vs : List Corner) → length vs ≡ n.second → second.old ≡ S.holding s vs → second.new ≡ S.holding s (vs ++ joining to_second v) }
 {
-    let m = put_if(rx, ry, rz, p.first, v, first);
-    let n = put_if(xs, ys, zs, to + p.second, v, second);
     Counts {
-        first: p.first + m,
-        second: p.second + n,
+        first: put_if(first, n.first, v, to_first),
+        second: put_if(second, n.second, v, to_second),
     }
 }
 
 // What the vertex a, with b before it, gives to each part.
-fn turn(
-    xs: &mut [f32; 28],
-    ys: &mut [f32; 28],
-    zs: &mut [f32; 28],
-    rx: &mut [f32; 28],
-    ry: &mut [f32; 28],
-    rz: &mut [f32; 28],
-    to: usize,
-    p: Counts,
+fn turn<F: Part, S: Part>(
+    first: &mut F,
+    second: &mut S,
+    n: Counts,
     b: Corner,
     a: Corner,
     db: f32,
     da: f32,
 ) -> Counts
-    requires { (p.first + 1 < 28) × (to + p.second + 1 < 28) }
-    ensures { divided result (arrays xs.new ys.new zs.new) (arrays rx.new ry.new rz.new)
-        ≡ grown to (divided p (arrays xs.old ys.old zs.old) (arrays rx.old ry.old rz.old))
-        (to_first b a db da) (to_second b a db da) }
+    requires { (n.first + 1 < 14) × (n.second + 1 < 14) }
+    ensures counts { (result.first ≡ n.first + length (to_first b a db da)) × (result.second ≡ n.second + length (to_second b a db da)) }
+    ensures first { (s : F) (vs : List Corner) → length vs ≡ n.first → first.old ≡ F.holding s vs → first.new ≡ F.holding s (vs ++ to_first b a db da) }
+    ensures second { (s : S) (vs : List Corner) → length vs ≡ n.second → second.old ≡ S.holding s vs → second.new ≡ S.holding s (vs ++ to_second b a db da) }
 {
     if (da >= 0.0) == (db >= 0.0) {
-        return join(xs, ys, zs, rx, ry, rz, to, p, a, da >= 0.0, da <= 0.0);
+        return join(first, second, n, a, da >= 0.0, da <= 0.0);
     }
     let c = crossing(b, a, db, da);
-    let q = join(xs, ys, zs, rx, ry, rz, to, p, c, true, true);
-    join(xs, ys, zs, rx, ry, rz, to, q, a, da > 0.0, da < 0.0)
+    let m = join(first, second, n, c, true, true);
+    join(first, second, m, a, da > 0.0, da < 0.0)
 }
 
-// The round of a polygon that has a vertex and stands in the half from `from` on; the other half is from `to` on.
-fn go_round(
-    xs: &mut [f32; 28],
-    ys: &mut [f32; 28],
-    zs: &mut [f32; 28],
-    from: usize,
-    to: usize,
-    n: usize,
+// The round of a polygon, whose last vertex stands before its first.
+#[inline(always)]
+fn go_round<F: Part, S: Part>(
+    vs: &[Corner],
     axis: Axis,
     offset: f32,
-    rx: &mut [f32; 28],
-    ry: &mut [f32; 28],
-    rz: &mut [f32; 28],
+    first: &mut F,
+    second: &mut S,
 ) -> Counts
-    requires { Apart from to × (0 < n) × (n ≤ 7) }
-    ensures { divided result (arrays xs.new ys.new zs.new) (arrays rx.new ry.new rz.new)
-        ≡ grown to (divided (counts_of 0 0) (arrays xs.old ys.old zs.old) (arrays rx.old ry.old rz.old))
-        (first_of axis offset (polygon_at (arrays xs.old ys.old zs.old) from n))
-        (second_of axis offset (polygon_at (arrays xs.old ys.old zs.old) from n)) }
+    requires { length vs.now ≤ 7 }
+    ensures counts { (result.first ≡ length (first_of axis offset vs.now)) × (result.second ≡ length (second_of axis offset vs.now)) }
+    ensures first { first.new ≡ F.holding first.old (first_of axis offset vs.now) }
+    ensures second { second.new ≡ S.holding second.old (second_of axis offset vs.now) }
 {
-    let mut p = Counts {
+    let mut n = Counts {
         first: 0,
         second: 0,
     };
-    let mut b = get_vertex(xs, ys, zs, from + n - 1);
+    let Some(last) = vs.last() else {
+        return n;
+    };
+    let mut b = *last;
     let mut db = offset - coordinate(b, axis);
-    let mut i = 0;
-    while i < n {
-        let a = get_vertex(xs, ys, zs, from + i);
+    for v in vs {
+        let a = *v;
         let da = offset - coordinate(a, axis);
-        p = turn(xs, ys, zs, rx, ry, rz, to, p, b, a, db, da);
+        n = turn(first, second, n, b, a, db, da);
         b = a;
         db = da;
-        i += 1;
     }
-    p
+    n
 }
 
-// Where the lower half of an array begins, or the upper one.
-pub(crate) fn half_at(upper: bool) -> usize
-    ensures { result ≡ half upper }
-{
-    if upper { 14 } else { 0 }
-}
-
-// The cut of the polygon of n vertices that stands in the lower half of xs, ys, zs (places 0 to 13) or in the upper one (14 to 27).
-// The first part is written to rx, ry, rz from place 0 on, the second to the other half of xs, ys, zs.
-pub fn divide(
-    xs: &mut [f32; 28],
-    ys: &mut [f32; 28],
-    zs: &mut [f32; 28],
-    upper: bool,
-    n: usize,
+// The cut of the polygon whose vertices are `vs`. Both parts stand whole even where one of them has an eighth vertex, which is an error;
+// a polygon of more than 7 vertices is one too, and then both parts stay as they were.
+#[inline(always)]
+pub fn divide<F: Part, S: Part>(
+    vs: &[Corner],
     axis: Axis,
     offset: f32,
-    rx: &mut [f32; 28],
-    ry: &mut [f32; 28],
-    rz: &mut [f32; 28],
-) -> Counts
-    ensures { divided result (arrays xs.new ys.new zs.new) (arrays rx.new ry.new rz.new)
-        ≡ divide_of upper n axis offset (arrays xs.old ys.old zs.old) (arrays rx.old ry.old rz.old) }
+    first: &mut F,
+    second: &mut S,
+) -> Result<(), EighthVertex>
+    ensures verdict { result ≡ verdict_of (slice_cut axis offset vs.now) }
+    ensures first { first.new ≡ cond (fitting vs.now) (F.made first.old (first_of axis offset vs.now)) first.old }
+    ensures second { second.new ≡ cond (fitting vs.now) (S.made second.old (second_of axis offset vs.now)) second.old }
 {
-    if n > 7 {
-        return Counts {
-            first: 8,
-            second: 8,
-        };
+    if vs.len() > 7 {
+        return Err(EighthVertex);
     }
-    if n == 0 {
-        return Counts {
-            first: 0,
-            second: 0,
-        };
+    let n = go_round(vs, axis, offset, first, second);
+    first.end(n.first);
+    second.end(n.second);
+    if n.first > 7 || n.second > 7 {
+        return Err(EighthVertex);
     }
-    let from = half_at(upper);
-    let to = half_at(!upper);
-    go_round(xs, ys, zs, from, to, n, axis, offset, rx, ry, rz)
+    Ok(())
 }

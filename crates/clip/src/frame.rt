@@ -1,10 +1,11 @@
 // What is fixed for a grid, and the first test of a triangle against it.
-ghost use Rattle.std.specs.Prelude.{◌≡◌, min};
-ghost use Rattle.clip.specs.Arrays.{arrays, numbers_at, polygon_at};
+ghost use Rattle.std.specs.Prelude.{◌≡◌, map, Float};
+ghost use Rattle.grid.specs.declared.Corner.{Corner};
+ghost use Rattle.clip.specs.Slices.{Reads};
 ghost use Rattle.clip.specs.Work.{frame_of, reaches_of, meets_of};
 
 use super::slices::{greatest_of, least_of};
-use grid::Grid;
+use grid::{Corner, Grid};
 
 // What a triangle's work needs of a grid.
 #[derive(Clone, Copy)]
@@ -34,26 +35,21 @@ pub fn frame_of(g: Grid, width: u32, height: u32) -> Frame
     }
 }
 
-// Do the first n numbers reach into low..high?
-fn reaches(v: &[f32; 28], n: usize, low: f32, high: f32) -> bool
-    ensures { result ≡ reaches_of low high (numbers_at v.now 0 (min n 28)) }
+// Do the numbers that `of` reads from the vertices reach into low..high?
+fn reaches<K: Fn(Corner) -> f32>(vs: &[Corner], of: K, low: f32, high: f32) -> bool
+    requires { K.IsAlwaysCallable of }
+    ensures { (g : Corner → Float) → Reads (K.post of) g → result ≡ reaches_of low high (map g vs.now) }
 {
-    if least_of(v, n) <= high {
-        return greatest_of(v, n) >= low;
-    }
-    false
+    least_of(vs, &of) <= high && greatest_of(vs, &of) >= low
 }
 
-// Does the box of the first n vertices overlap the grid's? Touching counts.
-pub fn meets(f: Frame, xs: &[f32; 28], ys: &[f32; 28], zs: &[f32; 28], n: usize) -> bool
-    ensures { result ≡ meets_of f (polygon_at (arrays xs.now ys.now zs.now) 0 (min n 28)) }
+// Does the box of the vertices overlap the grid's? Touching counts.
+pub fn meets(f: Frame, vs: &[Corner]) -> bool
+    ensures { result ≡ meets_of f vs.now }
 {
     let least = f.grid.min;
     let greatest = f.grid.max;
-    if reaches(xs, n, least.x, greatest.x) {
-        if reaches(ys, n, least.y, greatest.y) {
-            return reaches(zs, n, least.z, greatest.z);
-        }
-    }
-    false
+    reaches(vs, |v| v.x, least.x, greatest.x)
+        && reaches(vs, |v| v.y, least.y, greatest.y)
+        && reaches(vs, |v| v.z, least.z, greatest.z)
 }

@@ -7,4 +7,5 @@ pub mod cut;
 pub mod frame;
 pub mod heights;
 pub mod poly;
+pub mod rest;
 pub mod slices;

@@ -1,12 +1,16 @@
 // Polygons by value, and their cut.
-ghost use Rattle.std.specs.Prelude.{◌≡◌, [], ◌≤◌};
+ghost use Rattle.std.specs.Prelude.{◌≡◌, [], ◌∷◌, ◌≤◌, length};
 ghost use Rattle.clip.specs.Cut.{eighth};
-ghost use Rattle.clip.specs.Arrays.{arrays, polygon_at, written};
-ghost use Rattle.clip.specs.Poly.{vertices_of, poly_of, poly_cut, Answers};
+ghost use Rattle.clip.specs.Poly.{vertices_of, poly_of, poly_cut, Answers, held, polygon_of};
 
-use super::cut;
-use super::cut::Axis;
+use super::cut::{Axis, EighthVertex, Part, divide};
 use grid::Corner;
+
+const ORIGIN: Corner = Corner {
+    x: 0.0,
+    y: 0.0,
+    z: 0.0,
+};
 
 // A polygon by value: its vertices are at[0..n].
 #[derive(Clone, Copy)]
@@ -15,104 +19,101 @@ pub struct Poly {
     pub n: usize,
 }
 
-#[derive(Clone, Copy)]
-pub enum CutReply {
-    // 0
-    Fine,
-    // 6
-    EighthVertex,
-}
-
-// Both parts of a cut, which are empty at reply 6.
+// Both parts of a cut.
 #[derive(Clone, Copy)]
 pub struct Parts {
-    pub reply: CutReply,
     pub first: Poly,
     pub second: Poly,
+}
+
+// A part that is written down: its vertices are at[0..n]. A cut of 7 vertices gives a part at most 14.
+#[derive(Clone, Copy)]
+pub struct Polygon {
+    pub at: [Corner; 14],
+    pub n: usize,
+}
+
+impl Polygon {
+    pub fn empty() -> Self
+        ensures { held result ≡ [] }
+    {
+        Polygon {
+            at: [ORIGIN; 14],
+            n: 0,
+        }
+    }
+
+    pub fn of_three(a: Corner, b: Corner, c: Corner) -> Self
+        ensures { held result ≡ a ∷ b ∷ c ∷ [] }
+    {
+        let mut at = [ORIGIN; 14];
+        at[0] = a;
+        at[1] = b;
+        at[2] = c;
+        Polygon { at, n: 3 }
+    }
+
+    pub fn vertices(&self) -> &[Corner]
+        ensures value { result.now ≡ held self.now }
+        ensures whole { self.now.n ≤ 14 → length result.now ≡ self.now.n }
+    {
+        &self.at[..self.n.min(14)]
+    }
+}
+
+impl Part for Polygon {
+    ghost use Rattle.clip.specs.Poly.{polygon_holding, polygon_of, polygon_none};
+
+    ghost holding = { polygon_holding };
+
+    ghost made = { polygon_of };
+
+    fn put(&mut self, at: usize, v: Corner) {
+        self.at[at] = v;
+    }
+
+    fn end(&mut self, n: usize) {
+        self.n = n;
+    }
+
+    ghost holding_none = { polygon_none };
 }
 
 impl Poly {
     pub fn empty() -> Self
         ensures { result ≡ poly_of [] }
     {
-        let v = Corner {
-            x: 0.0,
-            y: 0.0,
-            z: 0.0,
-        };
-        Poly { at: [v; 7], n: 0 }
+        Poly {
+            at: [ORIGIN; 7],
+            n: 0,
+        }
     }
 }
 
-// The vertices of p into the arrays, from place 0 on.
-fn spread(p: Poly, xs: &mut [f32; 28], ys: &mut [f32; 28], zs: &mut [f32; 28])
-    requires { p.n ≤ 7 }
-    ensures { arrays xs.new ys.new zs.new ≡ written (arrays xs.old ys.old zs.old) 0 (vertices_of p) }
+// The first 7 vertices of a part that has no more.
+fn few(p: &Polygon) -> Poly
+    requires { p.now.n ≤ 7 }
+    ensures { result ≡ poly_of (held p.now) }
 {
-    let n = p.n;
-    let mut i = 0;
-    while i < n {
-        cut::put_vertex(xs, ys, zs, i, p.at[i]);
-        i += 1;
+    let mut at = [ORIGIN; 7];
+    for i in 0..p.n {
+        at[i] = p.at[i];
     }
+    Poly { at, n: p.n }
 }
 
-// The polygon of n vertices that stands in the arrays from `from` on.
-fn gather(xs: &[f32; 28], ys: &[f32; 28], zs: &[f32; 28], from: usize, n: usize) -> Poly
-    requires { (from ≤ 14) × (n ≤ 7) }
-    ensures { result ≡ poly_of (polygon_at (arrays xs.now ys.now zs.now) from n) }
-{
-    let v = Corner {
-        x: 0.0,
-        y: 0.0,
-        z: 0.0,
-    };
-    let mut at = [v; 7];
-    let mut i = 0;
-    while i < n {
-        at[i] = cut::get_vertex(xs, ys, zs, from + i);
-        i += 1;
-    }
-    Poly { at, n }
-}
-
-// A cut that would write an eighth vertex.
-fn refused() -> Parts
-    ensures { Answers eighth result }
-{
-    Parts {
-        reply: CutReply::EighthVertex,
-        first: Poly::empty(),
-        second: Poly::empty(),
-    }
-}
-
-// The cut of p at `offset`, by value: arrays of its own are lent to `divide`.
-pub fn divide_poly(p: Poly, axis: Axis, offset: f32) -> Parts
+// The cut of p at `offset`, by value.
+pub fn divide_poly(p: Poly, axis: Axis, offset: f32) -> Result<Parts, EighthVertex>
     ensures { Answers (poly_cut axis offset p) result }
 {
     if p.n > 7 {
-        return refused();
+        return Err(EighthVertex);
     }
-    let mut xs = [0.0f32; 28];
-    let mut ys = [0.0f32; 28];
-    let mut zs = [0.0f32; 28];
-    let mut rx = [0.0f32; 28];
-    let mut ry = [0.0f32; 28];
-    let mut rz = [0.0f32; 28];
-    spread(p, &mut xs, &mut ys, &mut zs);
-    let c = cut::divide(
-        &mut xs, &mut ys, &mut zs, false, p.n, axis, offset, &mut rx, &mut ry, &mut rz,
-    );
-    if c.first > 7 {
-        return refused();
-    }
-    if c.second > 7 {
-        return refused();
-    }
-    Parts {
-        reply: CutReply::Fine,
-        first: gather(&rx, &ry, &rz, 0, c.first),
-        second: gather(&xs, &ys, &zs, 14, c.second),
-    }
+    let mut first = Polygon::empty();
+    let mut second = Polygon::empty();
+    divide(&p.at[..p.n], axis, offset, &mut first, &mut second)?;
+    Ok(Parts {
+        first: few(&first),
+        second: few(&second),
+    })
 }

@@ -1,47 +1,40 @@
 // The rows and columns that a polygon meets: the least and the greatest of its coordinates, their cells, and where a cell ends.
-ghost use Rattle.std.specs.Prelude.{◌≡◌, ◌≤◌, min};
-ghost use Rattle.clip.specs.Arrays.{numbers_at};
-ghost use Rattle.clip.specs.Slices.{least_of, greatest_of, cell_of, edge_of, held_to, held_first, held_last};
+ghost use Rattle.std.specs.Prelude.{◌≡◌, ◌≤◌, map, Float};
+ghost use Rattle.grid.specs.declared.Corner.{Corner};
+ghost use Rattle.clip.specs.Slices.{together, least_of, greatest_of, cell_of, edge_of, held_to, held_first, held_last, Reads, Chooses};
 
-// How many of an array's numbers n of them are.
-fn counted(n: usize) -> usize
-    ensures { result ≡ min n 28 }
-{
-    if n < 28 { n } else { 28 }
-}
+use grid::Corner;
 
-// The least of the first n numbers.
-pub fn least_of(v: &[f32; 28], n: usize) -> f32
-    ensures { result ≡ least_of (numbers_at v.now 0 (min n 28)) }
+// The numbers that `of` reads from the vertices, put together two by two by `choice`. None give 0.
+fn together<K: Fn(Corner) -> f32, C: Fn(f32, f32) -> f32>(vs: &[Corner], of: K, choice: C) -> f32
+    requires of_callable { K.IsAlwaysCallable of }
+    requires choice_callable { C.IsAlwaysCallable choice }
+    ensures { (g : Corner → Float) (h : Float → Float → Float) → Reads (K.post of) g → Chooses (C.post choice) h → result ≡ together h (map g vs.now) }
 {
-    let m = counted(n);
-    if m == 0 {
+    let Some((first, rest)) = vs.split_first() else {
         return 0.0;
-    }
-    let mut y = v[0];
-    let mut i = 1;
-    while i < m {
-        y = ops::lesser(y, v[i]);
-        i += 1;
+    };
+    let mut y = of(*first);
+    for v in rest {
+        y = choice(y, of(*v));
     }
     y
 }
 
-// The greatest of the first n numbers.
-pub fn greatest_of(v: &[f32; 28], n: usize) -> f32
-    ensures { result ≡ greatest_of (numbers_at v.now 0 (min n 28)) }
+// The least of the numbers that `of` reads from the vertices.
+pub fn least_of<K: Fn(Corner) -> f32>(vs: &[Corner], of: K) -> f32
+    requires { K.IsAlwaysCallable of }
+    ensures { (g : Corner → Float) → Reads (K.post of) g → result ≡ least_of (map g vs.now) }
 {
-    let m = counted(n);
-    if m == 0 {
-        return 0.0;
-    }
-    let mut y = v[0];
-    let mut i = 1;
-    while i < m {
-        y = ops::greater(y, v[i]);
-        i += 1;
-    }
-    y
+    together(vs, of, |a, b| ops::lesser(a, b))
+}
+
+// The greatest of them.
+pub fn greatest_of<K: Fn(Corner) -> f32>(vs: &[Corner], of: K) -> f32
+    requires { K.IsAlwaysCallable of }
+    ensures { (g : Corner → Float) → Reads (K.post of) g → result ≡ greatest_of (map g vs.now) }
+{
+    together(vs, of, |a, b| ops::greater(a, b))
 }
 
 // The row or column that a coordinate lies in.
@@ -62,27 +55,20 @@ pub(crate) fn held(v: i32, low: u32, high: u32) -> u32
     requires { low ≤ high }
     ensures { result ≡ held_to low high v }
 {
-    if v < 0 {
-        return low;
+    match u32::try_from(v) {
+        Ok(n) => n.clamp(low, high),
+        Err(_) => low,
     }
-    let n = v as u32;
-    if n < low {
-        return low;
-    }
-    if n > high {
-        return high;
-    }
-    n
 }
 
 // v held to -1..last.
 pub fn held_first(v: i32, last: u32) -> i32
     ensures { result ≡ held_first last v }
 {
-    if v < 0 {
-        return -1;
+    match u32::try_from(v) {
+        Ok(n) => n.min(last) as i32,
+        Err(_) => -1,
     }
-    held(v, 0, last) as i32
 }
 
 // v held to 0..last.

@@ -2,31 +2,26 @@
 use mathlib.Core.Path.{◌≡◌, sym}
 use mathlib.Core.Bool.{Bool, true, false, ◌||◌, cond}
 use mathlib.Core.List.{List, [], ◌∷◌, map}
-use Prim.Native.Nat.{ℕ, ◌+◌, ◌-◌, ◌≤◌, ◌<◌, min}
+use Prim.Native.Nat.{ℕ, ◌+◌, ◌-◌, ◌≤◌, ◌<◌}
 use native.Mathlib.Numerals.{add-one}
 use native.Mathlib.Omega.{arith}
 use lib.Dec.{eqb}
 use lib.IntN.{pos}
 use lib.Signed.{lt_z, le_z}
-use lib.ListN.{length, get_or}
-use lib.Ieee.{Float, nan}
+use lib.ListN.{length}
+use lib.Ieee.{Float}
 use Rattle.grid.specs.declared.Corner.{Corner}
 use Rattle.clip.specs.declared.cut.Axis.TheVariants.{X, Z}
 use Rattle.clip.specs.declared.frame.Frame.{Frame}
-use Rattle.clip.specs.declared.heights.Snap.{Snap}
 use Rattle.clip.specs.Cut.{y_of}
-use Rattle.clip.specs.Arrays.{arrays, numbers_at, polygon_at}
 use Rattle.clip.specs.Slices.{least_of, greatest_of, held_first, held_last}
-use Rattle.clip.specs.Snap.{max_height, outside, floor_of, ceiling_of, snapped, snap_says, said_of}
+use Rattle.clip.specs.Snap.{Snap, max_height, outside, floor_of, ceiling_of, snapped, snap_says, said_of}
 use Rattle.clip.specs.Work.{insert as offer, stop, from_to, first_cell, last_cell, edge_at, cell_events, row_events, meets_of, triangle_events}
 use Rattle.clip.proofs.Holds.{held-le}
 use Rattle.clip.proofs.Snaps.{on_snap, snap-tells}
 use Rattle.field.specs.Working.{numbered, turns_to}
 use Rattle.field.proofs.Basics.{by-test}
 use Rattle.field.proofs.Slicing.{from-to, from-to-most, slices-length}
-
-pub all_of : (n : ℕ) → n ≤ 28 → min n 28 ≡ n
-all_of n h = omega arith
 
 -- ---- a cell
 
@@ -91,19 +86,3 @@ module _ (f : Frame) (vs : List Corner) where
       → triangle_events f vs ≡ turns_to Z (edge_at f Z) (row_events f) (last + 1) first vs
   unfolding triangle_events
   triangle-turns h first last e₁ e₂ = rw (h, ← e₁, ← e₂, from-to first last, ← add-one last)
-
--- three numbers of each coordinate make three corners
-pub three-corners : (xs ys zs : List Float) {a b c : Corner}
-    → numbers_at xs 0 3 ≡ a.x ∷ b.x ∷ c.x ∷ [] → numbers_at ys 0 3 ≡ a.y ∷ b.y ∷ c.y ∷ [] → numbers_at zs 0 3 ≡ a.z ∷ b.z ∷ c.z ∷ []
-    → polygon_at (arrays xs ys zs) 0 3 ≡ a ∷ b ∷ c ∷ []
-three-corners xs ys zs {a} {b} {c} p q r =
-    let x₀ : get_or xs 0 nan ≡ a.x = cc in
-    let x₁ : get_or xs 1 nan ≡ b.x = cc in
-    let x₂ : get_or xs 2 nan ≡ c.x = cc in
-    let y₀ : get_or ys 0 nan ≡ a.y = cc in
-    let y₁ : get_or ys 1 nan ≡ b.y = cc in
-    let y₂ : get_or ys 2 nan ≡ c.y = cc in
-    let z₀ : get_or zs 0 nan ≡ a.z = cc in
-    let z₁ : get_or zs 1 nan ≡ b.z = cc in
-    let z₂ : get_or zs 2 nan ≡ c.z = cc in
-    rw (x₀, x₁, x₂, y₀, y₁, y₂, z₀, z₁, z₂)

@@ -1,27 +1,20 @@
 -- Of rows and columns cut one after the other, counted as loops count them: what one turn takes off, what is left at the end, and how many insertions
 -- there can be.
-use mathlib.Core.Path.{◌≡◌, ◌∙◌}
-use mathlib.Core.Bool.{Bool, not, ◌&&◌}
+use mathlib.Core.Path.{◌≡◌, refl, ◌∙◌}
+use mathlib.Core.Bool.{Bool, true, false, ◌&&◌, cond}
 use mathlib.Core.List.{List, [], ◌∷◌}
 use Prim.Native.Nat.{ℕ, zero, suc, ◌+◌, ◌-◌, ◌*◌, ◌≤◌, ◌<◌}
 use native.Mathlib.Numerals.{add-one}
 use native.Mathlib.Omega.{arith}
-use lib.Dec.{leb, ltb}
+use lib.Dec.{ltb}
 use lib.IntN.{ℤ, pos, negsuc, suc_ℤ, suc-pred}
 use lib.ListN.{length}
 use lib.Ieee.{Float}
-use borrow.Author.Tests.{lt-ltb, le-ltb, le-leb, lt-leb, leb-true, leb-false}
+use borrow.Author.Tests.{lt-ltb, le-ltb, le-leb}
 use Rattle.grid.specs.declared.Corner.{Corner}
 use Rattle.clip.specs.declared.cut.Axis.{Axis}
-use Rattle.clip.specs.declared.cut.Counts.{Counts}
-use Rattle.clip.specs.declared.cut.Axis.TheVariants.{X}
-use Rattle.clip.specs.Cut.{Cut, parts, eighth, first_of, second_of, cut_of}
-use Rattle.clip.specs.Arrays.{Arrays, arrays, polygon_at, half, Divided, divide_of}
-use Rattle.clip.specs.Cell.{flat_at, Celled, cell_cut_of}
+use Rattle.clip.specs.Cut.{Cut, parts, eighth, fitting, first_of, second_of, cut_of, slice_cut}
 use Rattle.clip.specs.Work.{Event, insert as offer, stop, and_then, on_cut, slices, within, from_to}
-use Rattle.clip.proofs.Places.{Long}
-use Rattle.clip.proofs.Cuts.{first-eighth, second-eighth, both-parts}
-use Rattle.clip.proofs.Flat.{Blind, slices-blind, within-blind, flat-polygon, kept-is, left-flat}
 use Rattle.field.specs.Working.{numbered, turn_events, turns_to}
 use Rattle.field.proofs.Basics.{by-test}
 
@@ -35,26 +28,21 @@ module _ (axis : Axis) (edge : ℤ → Float) (gives : ℕ → List Corner → L
       let e : suc last - k ≡ suc (suc last - (k + 1)) = omega arith in
       rw (e, add-one k, suc-pred (pos k))
 
-  module _ (last k : ℕ) (upper : Bool) (n : ℕ) (a b : Arrays) (δ : Divided) (e : δ ≡ divide_of upper n axis (edge (numbered k)) a b) (few : n ≤ 7) (la : Long 28 a) (lb : Long 28 b) (inside : k ≤ last) where
-    abbrev d : Counts
-    d = δ.counts
-
-    abbrev part : List Corner
-    part = polygon_at δ.part 0 d.first
-
-    abbrev rest : List Corner
-    rest = polygon_at δ.polygon (half (not upper)) d.second
-
-    -- the cut's part is taken off, or the cut stops the work
-    pub turns-turn : turns_to axis edge gives last k (polygon_at a (half upper) n) ≡ and_then (turn_events d gives k part) (turns_to axis edge gives last (k + 1) rest)
-    unfolding and_then
-    turns-turn =
-        next last k (polygon_at a (half upper) n) inside
-        ∙ by-test (leb d.first 7)
-        (λ p. by-test (leb d.second 7)
-        (λ q. rw (p, q, both-parts upper n axis (edge (numbered k)) a b δ e few la lb (leb-true d.first 7 p) (leb-true d.second 7 q)))
-        (λ q. rw (p, q, second-eighth upper n axis (edge (numbered k)) a b δ e few (leb-true d.first 7 p) (leb-false d.second 7 q))))
-        (λ p. rw (p, first-eighth upper n axis (edge (numbered k)) a b δ e few (leb-false d.first 7 p)))
+  -- the cut's part is taken off, or the cut stops the work
+  pub turns-turn : (last k : ℕ) (vs : List Corner) → length vs ≤ 7 → k ≤ last
+      → turns_to axis edge gives last k vs
+      ≡ and_then (turn_events (slice_cut axis (edge (numbered k)) vs) gives k) (turns_to axis edge gives last (k + 1) (second_of axis (edge (numbered k)) vs))
+  unfolding slice_cut cut_of and_then
+  turns-turn last k vs few inside =
+      let first = first_of axis (edge (numbered k)) vs in
+      let second = second_of axis (edge (numbered k)) vs in
+      next last k vs inside ∙ rw (le-leb (length vs) 7 few) (go first second (fitting first && fitting second))
+    where
+      go : (first second : List Corner) (b : Bool)
+          → on_cut (cond b (parts first second) eighth) (λ part. within gives (numbered k) part) (λ more. turns_to axis edge gives last (k + 1) more)
+          ≡ and_then (turn_events (cond b (parts first second) eighth) gives k) (turns_to axis edge gives last (k + 1) second)
+      go first second true = refl
+      go first second false = refl
 
   pub turns-end : (last k : ℕ) (vs : List Corner) → last < k → turns_to axis edge gives last k vs ≡ []
   unfolding slices
@@ -62,59 +50,21 @@ module _ (axis : Axis) (edge : ℤ → Float) (gives : ℕ → List Corner → L
       let e : suc last - k ≡ 0 = omega arith in
       rw e
 
--- the same of a cut at the end of a cell, for work that does not hang on z
-module _ (edge : ℤ → Float) (gives : ℕ → List Corner → List Event) (blind : (x : ℕ) → Blind (gives x)) (last k : ℕ) (upper : Bool) (n : ℕ) (xs ys : List Float)
-    (δ : Celled) (e : δ ≡ cell_cut_of upper n (edge (numbered k)) xs ys) (few : n ≤ 7) (lx : length xs ≡ 28) (ly : length ys ≡ 28) (inside : k ≤ last) where
-  abbrev cell : List Corner
-  cell = first_of X (edge (numbered k)) (flat_at xs ys (half upper) n)
-
-  abbrev behind : List Corner
-  behind = second_of X (edge (numbered k)) (flat_at xs ys (half upper) n)
-
-  behind-turns : length behind ≤ 7 → turns_to X edge gives last (k + 1) behind ≡ turns_to X edge gives last (k + 1) (flat_at δ.xs δ.ys (half (not upper)) (length behind))
-  behind-turns h =
-      rw (left-flat upper n (edge (numbered k)) xs ys δ e few lx ly (omega arith))
-      (slices-blind edge (λ at part. within gives at part) (within-blind gives blind) (suc last - (k + 1)) (numbered (k + 1)) behind)
-
-  pub cells-turn : turns_to X edge gives last k (flat_at xs ys (half upper) n)
-      ≡ and_then (turn_events δ.kept.counts gives k cell) (turns_to X edge gives last (k + 1) (flat_at δ.xs δ.ys (half (not upper)) δ.kept.counts.second))
-  unfolding cut_of and_then
-  cells-turn =
-      next X edge gives last k (flat_at xs ys (half upper) n) inside
-      ∙ rw (kept-is upper n (edge (numbered k)) xs ys δ e few)
-      (by-test (leb (length cell) 7)
-      (λ p. by-test (leb (length behind) 7)
-      (λ q. rw (p, q, behind-turns (leb-true (length behind) 7 q)))
-      (λ q. rw (p, q)))
-      (λ p. rw p))
-
 -- ---- what one turn gives
 
-module _ (d : Counts) (gives : ℕ → List Corner → List Event) where
-  pub turn-first : (k : ℕ) (vs : List Corner) → 7 < d.first → turn_events d gives k vs ≡ stop 6 ∷ []
-  turn-first k vs h = rw (lt-leb d.first 7 h)
+module _ (gives : ℕ → List Corner → List Event) where
+  pub turn-before : (k : ℕ) (vs : List Corner) → k ≡ 0 → within gives (numbered k) vs ≡ []
+  turn-before k vs e = rw e
 
-  module _ (first_fits : d.first ≤ 7) where
-    pub turn-second : (k : ℕ) (vs : List Corner) → 7 < d.second → turn_events d gives k vs ≡ stop 6 ∷ []
-    turn-second k vs h = rw (le-leb d.first 7 first_fits, lt-leb d.second 7 h)
+  pub turn-few : (k : ℕ) (vs : List Corner) → length vs < 3 → within gives (numbered k) vs ≡ []
+  turn-few zero vs h = refl
+  turn-few (suc k) vs h = rw (lt-ltb (length vs) 3 h)
 
-    module _ (second_fits : d.second ≤ 7) where
-      pub turn-before : (k : ℕ) (vs : List Corner) → k ≡ 0 → turn_events d gives k vs ≡ []
-      turn-before k vs e = rw (le-leb d.first 7 first_fits, le-leb d.second 7 second_fits, e)
-
-      pub turn-few : (k : ℕ) (vs : List Corner) → length vs < 3 → turn_events d gives k vs ≡ []
-      turn-few zero vs h = rw (le-leb d.first 7 first_fits, le-leb d.second 7 second_fits)
-      turn-few (suc k) vs h = rw (le-leb d.first 7 first_fits, le-leb d.second 7 second_fits, lt-ltb (length vs) 3 h)
-
-      pub turn-part : (k : ℕ) (vs : List Corner) → 0 < k → 3 ≤ length vs → turn_events d gives k vs ≡ gives (k - 1) vs
-      turn-part zero vs p h = absurd (omega arith)
-      turn-part (suc k) vs p h =
-          let e : suc k - 1 ≡ k = omega arith in
-          rw (le-leb d.first 7 first_fits, le-leb d.second 7 second_fits, le-ltb (length vs) 3 h, e)
-
-  -- of work that does not hang on z
-  pub turn-flat : ((n : ℕ) → Blind (gives n)) → (k : ℕ) (xs ys zs : List Float) (n : ℕ) → turn_events d gives k (polygon_at (arrays xs ys zs) 0 n) ≡ turn_events d gives k (flat_at xs ys 0 n)
-  turn-flat blind k xs ys zs n = rw (within-blind gives blind (numbered k) (polygon_at (arrays xs ys zs) 0 n), flat-polygon xs ys zs 0 n)
+  pub turn-part : (k : ℕ) (vs : List Corner) → 0 < k → 3 ≤ length vs → within gives (numbered k) vs ≡ gives (k - 1) vs
+  turn-part zero vs p h = absurd (omega arith)
+  turn-part (suc k) vs p h =
+      let e : suc k - 1 ≡ k = omega arith in
+      rw (le-ltb (length vs) 3 h, e)
 
 -- ---- from the first to the last, counted from the one before the grid on
 
@@ -139,9 +89,9 @@ module _ (most : ℕ) (some : 1 ≤ most) (gives : ℕ → List Corner → List 
   within-length (negsuc n) part = omega arith
   within-length (pos n) part = by-test (ltb (length part) 3) (λ t. rw t (omega arith)) (λ t. rw t (each n part))
 
-  pub turn-length : (d : Counts) (k : ℕ) (part : List Corner) → length (turn_events d gives k part) ≤ most
-  turn-length d k part =
-      by-test (leb d.first 7 && leb d.second 7) (λ t. rw t (within-length (numbered k) part)) (λ t. rw t some)
+  pub turn-length : (c : Cut) (k : ℕ) → length (turn_events c gives k) ≤ most
+  turn-length (parts part rest) k = within-length (numbered k) part
+  turn-length eighth k = some
 
   cut-length : (c : Cut) (at : ℤ) (m : ℕ) (more : List Corner → List Event) → ((rest : List Corner) → length (more rest) ≤ m) → length (on_cut c (λ part. within gives at part) more) ≤ most + m
   cut-length (parts first second) at m more h = omega (arith, then-length (within gives at first) (more second), within-length at first, h second)

@@ -1,10 +1,9 @@
 -- What the inner functions of the rasteriser promise one another. No public contract cites this file.
-use Rattle.std.specs.Prelude.{◌≡◌, ◌&&◌, cond, List, [], ◌∷◌, ℕ, suc, ◌-◌, leb, ℤ, pos, Float}
+use Rattle.std.specs.Prelude.{◌≡◌, List, [], ◌∷◌, ℕ, suc, ◌-◌, ℤ, pos, Float}
 use Rattle.std.proofs.Math.IntN.{pred_ℤ}
 use Rattle.grid.specs.declared.Corner.{Corner}
 use Rattle.clip.specs.declared.cut.Axis.{Axis}
-use Rattle.clip.specs.declared.cut.Counts.{Counts}
-use Rattle.clip.specs.Cut.{most_vertices}
+use Rattle.clip.specs.Cut.{Cut, parts, eighth}
 use Rattle.clip.specs.Work.{Event, stop, slices, within}
 use Rattle.field.specs.Slots.{Slots}
 use Rattle.field.specs.Field.{Field, Holds}
@@ -21,8 +20,9 @@ abbrev pub numbered : ℕ → ℤ
 numbered k = pred_ℤ (pos k)
 
 -- what a cut gives to row or column k: reply 6, nothing, or what its part gives
-abbrev pub turn_events : Counts → (ℕ → List Corner → List Event) → ℕ → List Corner → List Event
-turn_events d gives k part = cond (leb d.first most_vertices && leb d.second most_vertices) (within gives (numbered k) part) (stop 6 ∷ [])
+abbrev pub turn_events : Cut → (ℕ → List Corner → List Event) → ℕ → List Event
+turn_events (parts part rest) gives k = within gives (numbered k) part
+turn_events eighth gives k = stop 6 ∷ []
 
 -- rows or columns k to `last`, so counted, of what remains
 abbrev pub turns_to : Axis → (ℤ → Float) → (ℕ → List Corner → List Event) → ℕ → ℕ → List Corner → List Event

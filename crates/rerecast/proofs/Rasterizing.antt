@@ -1,11 +1,9 @@
--- What the rasteriser's inner functions owe one another: how many insertions a step can have made, a turn of the loops over rows and columns, and the numbers
--- that are handed on.
+-- What the rasteriser's inner functions owe one another: how many insertions a step can have made, what a cut that is no error gives, a turn of the loops
+-- over rows and columns, and the numbers that are handed on.
 use mathlib.Core.Path.{◌≡◌, refl, sym, ap, subst, ◌∙◌}
-use mathlib.Core.Bool.{Bool, true, false, ◌&&◌}
 use mathlib.Core.List.{List}
 use Prim.Native.Nat.{ℕ, ◌+◌, ◌-◌, ◌*◌, ◌≤◌, ◌<◌}
 use native.Mathlib.Omega.{arith}
-use lib.Dec.{leb}
 use lib.IntN.{ℤ}
 use lib.Ieee.{Float}
 use lib.ListN.{length}
@@ -16,18 +14,19 @@ use borrow.Author.Tests.{leb-true}
 use Rattle.std.specs.Prelude.{Result, Ok, Err}
 use Rattle.grid.specs.declared.Corner.{Corner}
 use Rattle.grid.specs.declared.Grid.{Grid}
-use Rattle.clip.specs.declared.cut.Counts.{Counts}
+use Rattle.clip.specs.declared.cut.Axis.{Axis}
 use Rattle.clip.specs.declared.frame.Frame.{Frame}
+use Rattle.clip.specs.Cut.{parts, first_of, second_of, slice_cut, verdict_of}
 use Rattle.clip.specs.Slices.{cell_of, edge_of, held_last}
-use Rattle.clip.specs.Work.{Event, and_then, frame_of}
+use Rattle.clip.specs.Work.{Event, and_then, within, frame_of}
 use Rattle.clip.proofs.Holds.{held-le}
+use Rattle.clip.proofs.Rounds.{cut-fits, verdict-ok}
 use Rattle.field.specs.Slots.{Slots}
 use Rattle.field.specs.Field.{Field}
-use Rattle.field.specs.Carrying.{Carried, went, stopped, carry}
-use Rattle.field.specs.Working.{Remains, turn_events}
-use Rattle.field.proofs.Basics.{by-test}
+use Rattle.field.specs.Carrying.{Carried, carry}
+use Rattle.field.specs.Working.{Remains, numbered, turn_events}
 use Rattle.field.proofs.Carrying.{made_in, made-few, remains-then}
-use Rattle.rerecast.specs.Rasterize.{made_by, left_by, Carries, Sides, Ready}
+use Rattle.rerecast.specs.Rasterize.{made_by, left_by, Carries, CutsOff, Sides, Ready}
 use Rattle.rerecast.specs.declared.turns.Job.{Job}
 use Rattle.rerecast.specs.declared.turns.Halt.{Halt}
 
@@ -44,20 +43,26 @@ pub step-most : (job : Job) (made : ℕ) (f : Field) (es : List Event) (r : Resu
     → made_by r ≤ made + length es
 step-most job made f es r R = made-few job.frame.width job.threshold job.area made f es (left_by r) (λ g. over job r g) R
 
-both : (a b : Bool) → a && b ≡ true → (a ≡ true) × (b ≡ true)
-both true b e = (refl, e)
-both false b e = let z : ◌≡◌ {A = ℕ} 0 1 = cc in absurd (omega arith)
+-- what remains, whatever the step says
+pub cuts-off : (axis : Axis) (offset : Float) (vs rest : List Corner) (r : Result ℕ Halt) → (rest ≡ second_of axis offset vs) × (length rest ≤ 7)
+    → CutsOff axis offset vs rest r
+cuts-off axis offset vs rest (Ok made) more = more
+cuts-off axis offset vs rest (Err halt) more = tt
 
--- where a turn went on no part has an eighth vertex
-pub went-fits : (job : Job) (made : ℕ) (f : Field) (d : Counts) (gives : ℕ → List Corner → List Event) (k : ℕ) (vs : List Corner) (m : ℕ) {heads : List ℕ} {t : Slots}
-    → Carries job made f (turn_events d gives k vs) (Ok m) heads t → (d.first ≤ 7) × (d.second ≤ 7)
-unfolding carry
-went-fits job made f d gives k vs m R =
-    by-test (leb d.first 7 && leb d.second 7) (λ e. let p = both (leb d.first 7) (leb d.second 7) e in (leb-true d.first 7 p.0, leb-true d.second 7 p.1))
-    (λ e.
-    let q : went m R.field ≡ stopped 6 made f = rw e at R.comes in
-    let z : ◌≡◌ {A = ℕ} 0 1 = cc in
-    absurd (omega arith))
+-- ---- a cut that is no error, at an offset that was handed on
+
+module _ (axis : Axis) {offset end : Float} (vs : List Corner) (at : offset ≡ end) {u : Unit {0}} (fine : Ok u ≡ verdict_of (slice_cut axis offset vs)) where
+  pub cut-parts : slice_cut axis end vs ≡ parts (first_of axis end vs) (second_of axis end vs)
+  cut-parts = rw (← at) (cut-fits axis offset vs (verdict-ok axis offset vs fine))
+
+  pub part-few : length (first_of axis end vs) ≤ 7
+  part-few = rw (← at) (leb-true (length (first_of axis offset vs)) 7 (verdict-ok axis offset vs fine).first_fits)
+
+  pub rest-few : (rest : List Corner) → rest ≡ second_of axis offset vs → (rest ≡ second_of axis end vs) × (length rest ≤ 7)
+  rest-few rest e = rw (e, ← at) (refl, leb-true (length (second_of axis offset vs)) 7 (verdict-ok axis offset vs fine).second_fits)
+
+  pub turn-is : (gives : ℕ → List Corner → List Event) (k : ℕ) → turn_events (slice_cut axis end vs) gives k ≡ within gives (numbered k) (first_of axis end vs)
+  turn-is gives k = rw cut-parts
 
 -- ---- a turn of the loop over rows or columns, which takes the work `near` off what is left
 

@@ -1,16 +1,15 @@
 -- What the answers of the rasteriser's inner functions mean. No public contract cites this file.
-use Rattle.std.specs.Prelude.{◌≡◌, List, [], ◌∷◌, ℕ, ◌-◌, ◌*◌, ◌<◌, ◌≤◌, length, Float, Result, Ok, Err}
+use Rattle.std.specs.Prelude.{◌≡◌, Bool, true, false, List, [], ◌∷◌, ℕ, ◌-◌, ◌*◌, ◌<◌, ◌≤◌, length, Float, Result, Ok, Err}
 use Rattle.grid.specs.declared.Corner.{Corner}
-use Rattle.clip.specs.declared.cut.Counts.{Counts}
+use Rattle.clip.specs.declared.cut.Axis.{Axis}
 use Rattle.clip.specs.declared.frame.Frame.{Frame}
-use Rattle.clip.specs.Work.{Event, stop}
+use Rattle.clip.specs.Cut.{second_of}
+use Rattle.clip.specs.Work.{Event, stop, within}
 use Rattle.field.specs.Slots.{Slots}
 use Rattle.field.specs.Field.{Field, Holds}
 use Rattle.field.specs.Carrying.{Meshed, says_of, leaves, Work, carry}
-use Rattle.field.specs.Working.{Remains, turn_events}
+use Rattle.field.specs.Working.{Remains, numbered}
 use Rattle.rerecast.specs.declared.turns.Job.{Job}
-use Rattle.rerecast.specs.declared.turns.Part.{Part}
-use Rattle.rerecast.specs.declared.turns.Part.TheVariants as part
 use Rattle.rerecast.specs.declared.turns.Halt.{Halt}
 use Rattle.rerecast.specs.declared.Refusal.{Refusal}
 use Rattle.rerecast.specs.Answer.{number_of, said_of}
@@ -38,12 +37,15 @@ pub record MeshWorked (o : Meshed) (r : Result Unit Refusal) (heads : List ℕ) 
   pub says : said_of r ≡ says_of o
   pub holds : Holds heads t (leaves o)
 
--- what the counts of a cut say of row or column k
-abbrev pub Judged : Part → Counts → ℕ → Type 0
-Judged part.Eighth d k = (gives : ℕ → List Corner → List Event) (vs : List Corner) → turn_events d gives k vs ≡ stop 6 ∷ []
-Judged part.Nothing d k = (gives : ℕ → List Corner → List Event) (vs : List Corner) → length vs ≡ d.first → turn_events d gives k vs ≡ []
-Judged part.Polygon d k =
-    (0 < k) × (d.first ≤ 7) × ((gives : ℕ → List Corner → List Event) (vs : List Corner) → length vs ≡ d.first → turn_events d gives k vs ≡ gives (k - 1) vs)
+-- what row or column k gives of a part with n vertices: nothing, or what the part gives
+abbrev pub Judged : Bool → ℕ → ℕ → Type 0
+Judged true n k = (gives : ℕ → List Corner → List Event) (vs : List Corner) → length vs ≡ n → within gives (numbered k) vs ≡ []
+Judged false n k = (0 < k) × ((gives : ℕ → List Corner → List Event) (vs : List Corner) → length vs ≡ n → within gives (numbered k) vs ≡ gives (k - 1) vs)
+
+-- where a step went on, what remains of a polygon is what lies behind the cut, and it can be cut again
+abbrev pub CutsOff : Axis → Float → List Corner → List Corner → Result ℕ Halt → Type 0
+CutsOff axis offset vs rest (Ok made) = (rest ≡ second_of axis offset vs) × (length rest ≤ 7)
+CutsOff axis offset vs rest (Err halt) = Unit {0}
 
 -- a width and a height within their limits
 pub record Sides (w h : ℕ) : Type 0 where
@@ -57,14 +59,3 @@ pub record Sides (w h : ℕ) : Type 0 where
 pub record Ready (f : Frame) (heads : List ℕ) : Type 0 where
   pub sides : Sides f.width f.height
   pub all : length heads ≡ f.width * f.height
-
--- three arrays with all their places
-pub record AllPlaces (xs ys zs : List Float) : Type 0 where
-  pub all-xs : length xs ≡ 28
-  pub all-ys : length ys ≡ 28
-  pub all-zs : length zs ≡ 28
-
--- two arrays with all their places
-pub record BothPlaces (xs ys : List Float) : Type 0 where
-  pub all-xs : length xs ≡ 28
-  pub all-ys : length ys ≡ 28

@@ -222,6 +222,7 @@ fn compact_field(
 }
 
 // The compact result of a field: the open spaces above its walkable spans, each with links to the columns beside. The field is only read.
+// Lent slice by slice, as C lends it: see src/lent.rt.
 pub fn into_compact(
     grid: Grid,
     heads: &[u32],

@@ -62,6 +62,7 @@ fn fresh_store(heads: &mut [u32], slots: &mut Slots<'_>, size: Size) -> Result<(
 }
 
 // Makes a fresh field: every column is empty, and every slot is free, in the order of the slots' numbers.
+// Lent slice by slice, as C lends it: see src/lent.rt.
 pub fn fresh(
     grid: Grid,
     heads: &mut [u32],
@@ -112,6 +113,7 @@ fn offer(
 }
 
 // Inserts a span into the column at x, z. Spans that share a height with it merge into it.
+// Lent slice by slice, as C lends it: see src/lent.rt.
 pub fn add_span(
     grid: Grid,
     heads: &mut [u32],
@@ -162,6 +164,7 @@ fn filter_all(columns: &Columns<'_>, areas: &mut [u8], size: Size, agent: Agent)
 }
 
 // Puts a mesh into the field, with the climb as merge threshold, and runs the three filters once all of it is placed. A mesh that stops is not filtered.
+// Lent slice by slice, as C lends it: see src/lent.rt.
 pub fn populate_from_trimesh(
     grid: Grid,
     heads: &mut [u32],

@@ -1,5 +1,6 @@
-// The slices of a store, a mesh and a compact result, as the inner functions pass them on together. The public calls are lent them one by one, as C lends
-// them, and take them apart again where a call first changes the slots and then reads them.
+// The slices of a store, a mesh and a compact result, as the inner functions pass them on together. The public calls are lent them one by one, since C
+// lends them so, and since a call that first changes the slots and then reads some of them takes them apart in between, which a struct lent whole does not
+// allow: its fields can't be lent in two ways at once. Heads stay beside the slots, since most calls lend on only the first of them.
 
 // The slots of a store, to be changed: the first slot of the free chain, the spans that the slots hold, and the slot that follows each.
 #[derive(Drop)]

@@ -110,6 +110,7 @@ pub(crate) fn raise_columns(columns: &Columns<'_>, areas: &mut [u8], climb: u16)
 }
 
 // Makes low obstacles walkable: an unwalkable span takes the area of a walkable one just below it.
+// Lent slice by slice, as C lends it: see src/lent.rt.
 pub fn filter_low_hanging_walkable_obstacles(
     grid: Grid,
     heads: &[u32],
@@ -143,6 +144,7 @@ pub fn filter_low_hanging_walkable_obstacles(
 // ---- ledges
 
 // Makes the spans at a ledge unwalkable.
+// Lent slice by slice, as C lends it: see src/lent.rt.
 pub fn filter_ledge_spans(
     grid: Grid,
     heads: &[u32],
@@ -221,6 +223,7 @@ pub(crate) fn lower_columns(columns: &Columns<'_>, areas: &mut [u8], height: u16
 }
 
 // Makes the spans unwalkable that have too little room above them.
+// Lent slice by slice, as C lends it: see src/lent.rt.
 pub fn filter_walkable_low_height_spans(
     grid: Grid,
     heads: &[u32],

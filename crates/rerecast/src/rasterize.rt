@@ -1,6 +1,5 @@
 // Triangles to spans: a triangle is cut into rows, a row into columns, and a cell's part becomes a span of the store.
 ghost use Rattle.std.specs.Prelude.{◌≡◌, List, [], ◌∷◌, ◌++◌, ℕ, ◌*◌, ◌/◌, ◌<◌, ◌≤◌, length, get_or, take, replicate};
-ghost use Rattle.clip.specs.Arrays.{numbers_at};
 ghost use Rattle.clip.specs.Work.{frame_of, triangle_events};
 ghost use Rattle.field.specs.Slots.{slots};
 ghost use Rattle.field.specs.Field.{Field, Holds, Held};
@@ -15,19 +14,10 @@ use crate::lent::{Columns, Mesh, Slots};
 use crate::mesh_admission::admit_mesh;
 use crate::rows::rows;
 use crate::turns::{Halt, Job, first_of};
-use clip::frame::{Frame, frame_of};
+use clip::frame::{Frame, frame_of, meets};
+use clip::poly::Polygon;
+use clip::slices::{cell_at, greatest_of, held_last, least_of};
 use grid::{Corner, Grid, Size};
-
-// An array that begins with three numbers.
-fn three(a: f32, b: f32, c: f32) -> [f32; 28]
-    ensures { (length result ≡ 28) × (numbers_at result 0 3 ≡ a ∷ b ∷ c ∷ []) }
-{
-    let mut v = [0.0f32; 28];
-    v[0] = a;
-    v[1] = b;
-    v[2] = c;
-    v
-}
 
 fn triangle(
     heads: &mut [u32],
@@ -44,17 +34,15 @@ fn triangle(
     ensures same_slots { SameSlots slots.old slots.new }
 {
     let f = job.frame;
-    let xs = three(a.x, b.x, c.x);
-    let ys = three(a.y, b.y, c.y);
-    let zs = three(a.z, b.z, c.z);
-    if !clip::frame::meets(f, &xs, &ys, &zs, 3) {
+    let vs = [a, b, c];
+    if !meets(f, &vs) {
         return Ok(0);
     }
-    let z0 = clip::slices::cell_at(f.grid.min.z, f.inverse, clip::slices::least_of(&zs, 3));
-    let z1 = clip::slices::cell_at(f.grid.min.z, f.inverse, clip::slices::greatest_of(&zs, 3));
+    let z0 = cell_at(f.grid.min.z, f.inverse, least_of(&vs, |v| v.z));
+    let z1 = cell_at(f.grid.min.z, f.inverse, greatest_of(&vs, |v| v.z));
     let first = first_of(z0, f.height - 1);
-    let last = clip::slices::held_last(z1, f.height - 1) + 1;
-    rows(heads, slots, job, &xs, &ys, &zs, first, last)
+    let last = held_last(z1, f.height - 1) + 1;
+    rows(heads, slots, job, &Polygon::of_three(a, b, c), first, last)
 }
 
 // The corner that stands at a place of the indices.
@@ -143,6 +131,7 @@ pub(crate) fn take_mesh(
 }
 
 // Puts the triangles of a mesh into the field, each with its area, up to the first that stops.
+// Lent slice by slice, as C lends it: see src/lent.rt.
 pub fn rasterize_triangles(
     grid: Grid,
     heads: &mut [u32],
@@ -185,6 +174,7 @@ pub fn rasterize_triangles(
 }
 
 // Puts one triangle into the field: a mesh of one.
+// Lent slice by slice, as C lends it: see src/lent.rt.
 pub fn rasterize_triangle(
     grid: Grid,
     heads: &mut [u32],

@@ -1,22 +1,25 @@
 // The rows of a triangle and the cells of a row: each is cut from what remains, and a cell's part becomes a span of the field.
-ghost use Rattle.std.specs.Prelude.{◌≡◌, List, [], ◌∷◌, ◌++◌, map, ℕ, ◌/◌, ◌<◌, ◌≤◌};
-ghost use Rattle.clip.specs.Cut.{y_of};
-ghost use Rattle.clip.specs.Arrays.{arrays, polygon_at};
-ghost use Rattle.clip.specs.Cell.{flat_at, piece_of};
+ghost use Rattle.std.specs.Prelude.{◌≡◌, List, [], ◌∷◌, ◌++◌, map, ℕ, ◌/◌, ◌<◌, ◌≤◌, length};
+ghost use Rattle.clip.specs.Cut.{y_of, slice_cut};
+ghost use Rattle.clip.specs.Poly.{held};
+ghost use Rattle.clip.specs.Rest.{left};
 ghost use Rattle.clip.specs.Slices.{least_of, greatest_of};
 ghost use Rattle.clip.specs.Work.{insert, edge_at, cell_events, row_events};
 ghost use Rattle.field.specs.Field.{Field, Holds, Held};
-ghost use Rattle.field.specs.Working.{turn_events, turns_to};
+ghost use Rattle.field.specs.Working.{numbered, turn_events, turns_to};
 ghost use Rattle.rerecast.specs.Lent.{slots_of, SameSlots};
-ghost use Rattle.rerecast.specs.Rasterize.{Carries, Ready, AllPlaces, BothPlaces};
+ghost use Rattle.rerecast.specs.Rasterize.{Carries, CutsOff, Ready};
 
 use crate::Stop;
 use crate::insertion::insert_span;
 use crate::lent::Slots;
-use crate::turns::{Halt, Job, Part, first_of, misses, number, part_of};
+use crate::turns::{Halt, Job, first_of, gives_nothing, misses, number};
 use clip::cell::Piece;
-use clip::cut::{Axis, Counts};
-use clip::heights::Snap;
+use clip::cut::{Axis, EighthVertex};
+use clip::heights::{Heights, TooHigh, snap_of};
+use clip::poly::Polygon;
+use clip::rest::Rest;
+use clip::slices::{cell_at, edge, greatest_of, held_last, least_of};
 use field::Span;
 use grid::Corner;
 
@@ -71,132 +74,134 @@ fn place(
     ensures same_slots { SameSlots slots.old slots.new }
 {
     let f = job.frame;
-    match clip::heights::snap_of(low, high, f.grid.min.y, f.tall, f.rise) {
-        Snap::Outside => Ok(made),
-        Snap::TooHigh => Err(Halt {
+    match snap_of(low, high, f.grid.min.y, f.tall, f.rise) {
+        Ok(None) => Ok(made),
+        Ok(Some(Heights { floor, ceiling })) => {
+            put(heads, slots, job, x, z, floor, ceiling, made)
+        }
+        Err(TooHigh) => Err(Halt {
             why: Stop::TooHigh,
             made,
         }),
-        Snap::Span(floor, ceiling) => put(heads, slots, job, x, z, floor, ceiling, made),
     }
 }
 
-// What a cut gives to column k of row z.
+// Column k of row z: what is cut off the row there.
 fn column(
     heads: &mut [u32],
     slots: &mut Slots<'_>,
     job: Job,
-    d: Piece,
+    rest: &mut Rest,
     k: u32,
     z: u32,
     made: u32,
 ) -> Result<u32, Halt>
     requires ready { Ready job.frame heads.old × (k ≤ job.frame.width) × (z < job.frame.height) × (made < 4294967295) }
     requires held { (others : List ℕ) × Held (heads.old ++ others) (slots_of slots.old) }
-    ensures carries { (others : List ℕ) (f : Field) (first second : List Corner) → d ≡ piece_of first second
-        → Holds (heads.old ++ others) (slots_of slots.old) f
-        → Carries job made f (turn_events d.counts (cell_events job.frame z) k first) result (heads.new ++ others) (slots_of slots.new) }
+    ensures carries { (others : List ℕ) (f : Field) → Holds (heads.old ++ others) (slots_of slots.old) f
+        → Carries job made f (turn_events (slice_cut Axis.X (edge_at job.frame Axis.X (numbered k)) (left rest.old)) (cell_events job.frame z) k) result
+        (heads.new ++ others) (slots_of slots.new) }
+    ensures cuts_off { CutsOff Axis.X (edge_at job.frame Axis.X (numbered k)) (left rest.old) (left rest.new) result }
     ensures same_slots { SameSlots slots.old slots.new }
 {
-    match part_of(d.counts, k) {
-        Part::Eighth => Err(Halt {
+    let grid = job.frame.grid;
+    let end = edge(grid.min.x, grid.cell_size, number(k));
+    let mut cell = Piece::none();
+    if let Err(EighthVertex) = rest.cut(Axis::X, end, &mut cell) {
+        return Err(Halt {
             why: Stop::EighthVertex,
             made,
-        }),
-        Part::Nothing => Ok(made),
-        Part::Polygon => place(heads, slots, job, d.low, d.high, k - 1, z, made),
+        });
     }
+    if gives_nothing(cell.n, k) {
+        return Ok(made);
+    }
+    place(heads, slots, job, cell.low, cell.high, k - 1, z, made)
 }
 
-// Columns first..last of row z, whose part has n vertices.
+// Columns first..last of row z.
 fn columns(
     heads: &mut [u32],
     slots: &mut Slots<'_>,
     job: Job,
-    xs: &[f32; 28],
-    ys: &[f32; 28],
-    n: usize,
+    row: &Polygon,
     z: u32,
     first: u32,
     last: u32,
     made: u32,
 ) -> Result<u32, Halt>
-    requires ready { Ready job.frame heads.old × (z < job.frame.height) × (n ≤ 7) × (last ≤ job.frame.width) × (made ≤ 16781312) × BothPlaces xs.now ys.now }
+    requires ready { Ready job.frame heads.old × (z < job.frame.height) × (length (held row.now) ≤ 7) × (last ≤ job.frame.width) × (made ≤ 16781312) }
     requires held { (others : List ℕ) × Held (heads.old ++ others) (slots_of slots.old) }
     ensures carries { (others : List ℕ) (f : Field) → Holds (heads.old ++ others) (slots_of slots.old) f
-        → Carries job made f (turns_to Axis.X (edge_at job.frame Axis.X) (cell_events job.frame z) last first (flat_at xs.now ys.now 0 n)) result
+        → Carries job made f (turns_to Axis.X (edge_at job.frame Axis.X) (cell_events job.frame z) last first (held row.now)) result
         (heads.new ++ others) (slots_of slots.new) }
     ensures same_slots { SameSlots slots.old slots.new }
 {
-    let grid = job.frame.grid;
-    let mut px = *xs;
-    let mut py = *ys;
-    let mut upper = false;
-    let mut rest = n;
+    let mut rest = Rest::of(row);
     let mut count = made;
     for k in first..last + 1 {
-        let end = clip::slices::edge(grid.min.x, grid.cell_size, number(k));
-        let d = clip::cell::cut_cell(&mut px, &mut py, upper, rest, end);
-        count = column(heads, slots, job, d, k, z, count)?;
-        rest = d.counts.second;
-        upper = !upper;
+        count = column(heads, slots, job, &mut rest, k, z, count)?;
     }
     Ok(count)
 }
 
-// Row z, whose part has n vertices.
+// Row z.
 fn row(
     heads: &mut [u32],
     slots: &mut Slots<'_>,
     job: Job,
-    xs: &[f32; 28],
-    ys: &[f32; 28],
-    n: usize,
+    part: &Polygon,
     z: u32,
     made: u32,
 ) -> Result<u32, Halt>
-    requires ready { Ready job.frame heads.old × (z < job.frame.height) × (n ≤ 7) × (made ≤ 16781312) × BothPlaces xs.now ys.now }
+    requires ready { Ready job.frame heads.old × (z < job.frame.height) × (length (held part.now) ≤ 7) × (made ≤ 16781312) }
     requires held { (others : List ℕ) × Held (heads.old ++ others) (slots_of slots.old) }
     ensures carries { (others : List ℕ) (f : Field) → Holds (heads.old ++ others) (slots_of slots.old) f
-        → Carries job made f (row_events job.frame z (flat_at xs.now ys.now 0 n)) result (heads.new ++ others) (slots_of slots.new) }
+        → Carries job made f (row_events job.frame z (held part.now)) result (heads.new ++ others) (slots_of slots.new) }
     ensures same_slots { SameSlots slots.old slots.new }
 {
     let f = job.frame;
-    let x0 = clip::slices::cell_at(f.grid.min.x, f.inverse, clip::slices::least_of(xs, n));
-    let x1 = clip::slices::cell_at(f.grid.min.x, f.inverse, clip::slices::greatest_of(xs, n));
+    let vs = part.vertices();
+    let x0 = cell_at(f.grid.min.x, f.inverse, least_of(vs, |v| v.x));
+    let x1 = cell_at(f.grid.min.x, f.inverse, greatest_of(vs, |v| v.x));
     if misses(x0, x1, f.width) {
         return Ok(made);
     }
     let first = first_of(x0, f.width - 1);
-    let last = clip::slices::held_last(x1, f.width - 1) + 1;
-    columns(heads, slots, job, xs, ys, n, z, first, last, made)
+    let last = held_last(x1, f.width - 1) + 1;
+    columns(heads, slots, job, part, z, first, last, made)
 }
 
-// What a cut gives to row k. The first part's xs and ys are here: along x its zs count for nothing.
+// Row k: what is cut off the triangle there, into `part`.
 fn row_at(
     heads: &mut [u32],
     slots: &mut Slots<'_>,
     job: Job,
-    d: Counts,
-    xs: &[f32; 28],
-    ys: &[f32; 28],
+    rest: &mut Rest,
+    part: &mut Polygon,
     k: u32,
     made: u32,
 ) -> Result<u32, Halt>
-    requires ready { Ready job.frame heads.old × (k ≤ job.frame.height) × (made ≤ 16781312) × BothPlaces xs.now ys.now }
+    requires ready { Ready job.frame heads.old × (k ≤ job.frame.height) × (made ≤ 16781312) }
     requires held { (others : List ℕ) × Held (heads.old ++ others) (slots_of slots.old) }
     ensures carries { (others : List ℕ) (f : Field) → Holds (heads.old ++ others) (slots_of slots.old) f
-        → Carries job made f (turn_events d (row_events job.frame) k (flat_at xs.now ys.now 0 d.first)) result (heads.new ++ others) (slots_of slots.new) }
+        → Carries job made f (turn_events (slice_cut Axis.Z (edge_at job.frame Axis.Z (numbered k)) (left rest.old)) (row_events job.frame) k) result
+        (heads.new ++ others) (slots_of slots.new) }
+    ensures cuts_off { CutsOff Axis.Z (edge_at job.frame Axis.Z (numbered k)) (left rest.old) (left rest.new) result }
     ensures same_slots { SameSlots slots.old slots.new }
 {
-    match part_of(d, k) {
-        Part::Eighth => Err(Halt {
+    let grid = job.frame.grid;
+    let end = edge(grid.min.z, grid.cell_size, number(k));
+    if let Err(EighthVertex) = rest.cut(Axis::Z, end, part) {
+        return Err(Halt {
             why: Stop::EighthVertex,
             made,
-        }),
-        Part::Nothing => Ok(made),
-        Part::Polygon => row(heads, slots, job, xs, ys, d.first, k - 1, made),
+        });
     }
+    if gives_nothing(part.vertices().len(), k) {
+        return Ok(made);
+    }
+    row(heads, slots, job, part, k - 1, made)
 }
 
 // Rows first..last of a triangle.
@@ -204,46 +209,22 @@ pub(crate) fn rows(
     heads: &mut [u32],
     slots: &mut Slots<'_>,
     job: Job,
-    xs: &[f32; 28],
-    ys: &[f32; 28],
-    zs: &[f32; 28],
+    triangle: &Polygon,
     first: u32,
     last: u32,
 ) -> Result<u32, Halt>
-    requires ready { Ready job.frame heads.old × (last ≤ job.frame.height) × AllPlaces xs.now ys.now zs.now }
+    requires ready { Ready job.frame heads.old × (length (held triangle.now) ≤ 7) × (last ≤ job.frame.height) }
     requires held { (others : List ℕ) × Held (heads.old ++ others) (slots_of slots.old) }
     ensures carries { (others : List ℕ) (f : Field) → Holds (heads.old ++ others) (slots_of slots.old) f
-        → Carries job 0 f (turns_to Axis.Z (edge_at job.frame Axis.Z) (row_events job.frame) last first (polygon_at (arrays xs.now ys.now zs.now) 0 3)) result
+        → Carries job 0 f (turns_to Axis.Z (edge_at job.frame Axis.Z) (row_events job.frame) last first (held triangle.now)) result
         (heads.new ++ others) (slots_of slots.new) }
     ensures same_slots { SameSlots slots.old slots.new }
 {
-    let grid = job.frame.grid;
-    let mut px = *xs;
-    let mut py = *ys;
-    let mut pz = *zs;
-    let mut rx = [0.0f32; 28];
-    let mut ry = [0.0f32; 28];
-    let mut rz = [0.0f32; 28];
-    let mut upper = false;
-    let mut rest: usize = 3;
+    let mut rest = Rest::of(triangle);
+    let mut part = Polygon::empty();
     let mut count: u32 = 0;
     for k in first..last + 1 {
-        let end = clip::slices::edge(grid.min.z, grid.cell_size, number(k));
-        let d = clip::cut::divide(
-            &mut px,
-            &mut py,
-            &mut pz,
-            upper,
-            rest,
-            Axis::Z,
-            end,
-            &mut rx,
-            &mut ry,
-            &mut rz,
-        );
-        count = row_at(heads, slots, job, d, &rx, &ry, k, count)?;
-        rest = d.second;
-        upper = !upper;
+        count = row_at(heads, slots, job, &mut rest, &mut part, k, count)?;
     }
     Ok(count)
 }

@@ -6,7 +6,6 @@ ghost use Rattle.field.specs.Working.{numbered};
 ghost use Rattle.rerecast.specs.Rasterize.{Judged};
 
 use crate::Stop;
-use clip::cut::Counts;
 use clip::frame::Frame;
 
 // A triangle's work stopped: why, and how many of its insertions were made before.
@@ -24,32 +23,11 @@ pub(crate) struct Job {
     pub threshold: u16,
 }
 
-// What a cut gives to a row or a column.
-#[derive(Clone, Copy)]
-pub(crate) enum Part {
-    // a part would have an eighth vertex
-    Eighth,
-    Nothing,
-    Polygon,
-}
-
-// Rows and columns are counted from 0 for number -1, which gives nothing.
-pub(crate) fn part_of(d: Counts, k: u32) -> Part
-    ensures { Judged result d k }
+// Rows and columns are counted from 0 for number -1, which gives nothing, and neither does a part with fewer than 3 vertices.
+pub(crate) fn gives_nothing(n: usize, k: u32) -> bool
+    ensures { Judged result n k }
 {
-    if d.first > 7 {
-        return Part::Eighth;
-    }
-    if d.second > 7 {
-        return Part::Eighth;
-    }
-    if k == 0 {
-        return Part::Nothing;
-    }
-    if d.first < 3 {
-        return Part::Nothing;
-    }
-    Part::Polygon
+    k == 0 || n < 3
 }
 
 pub(crate) fn number(k: u32) -> i16

@@ -1,55 +1,93 @@
 -- `clip::cut::go_round` meets its contract.
 use mathlib.Core.Path.{◌≡◌, refl, sym, ap, ◌∙◌}
 use native.Mathlib.Omega.{arith}
-use lib.Ieee.{Float, binary32, sub}
+use lib.Ieee.{Float, binary32, nan, sub}
+use lib.ListN.{length, length-append, take, get_or}
 use Rattle.grid.specs.declared.Corner.{Corner}
-use Rattle.clip.specs.Cut.{distance}
-use Rattle.clip.specs.Arrays.{Divided, arrays, counts_of, divided}
-use Rattle.clip.proofs.Turns.{still, still-all, still-none, still-turn, grown-two}
-use Rattle.clip.proofs.Rounds.{dividing}
+use Rattle.clip.specs.Cut.{to_first, to_second, onward, first_of, second_of, gives_first, gives_second}
+use Rattle.clip.proofs.Rounds.{none-last, around-last, around-none, onward-all, turn-next, last-next, first_two, second-two}
 use Rattle.clip.proofs.cut.go_round.Goals as goal
+use Rattle.clip.proofs.cut.go_round.Goals.{After-loop-v}
+use Rattle.clip.proofs.cut.go_round.Given.{Over}
 
-pub loop-i-init : goal.loop-i-init
-loop-i-init c = (omega arith, omega arith, omega arith, ap (λ (x : Float). sub binary32 c.args.offset x) c.coordinate.ensures, refl)
-
-pub get_vertex-a-requires : goal.get_vertex-a-requires
-get_vertex-a-requires c = omega arith
-
-pub turn-p-requires : goal.turn-p-requires
-turn-p-requires c =
-    let v = c.loop-i in
-    (omega (arith, c.loop-i-test.true, v.invariant.1, c.requires.2), omega (arith, c.loop-i-test.true, v.invariant.2, c.requires.0.writes, c.requires.2))
-
-pub overflow_add-i : goal.overflow_add-i
-overflow_add-i c = record { fits = omega (arith, c.loop-i-test.true, c.requires.2) }
-
-pub loop-i-smaller : goal.loop-i-smaller
-loop-i-smaller c = omega (arith, c.loop-i-test.true)
-
-pub loop-i-preserved : goal.loop-i-preserved
-loop-i-preserved c =
-    let v = c.loop-i in
+pub returns-in_default-clause-counts : goal.returns-in_default-clause-counts
+returns-in_default-clause-counts g c =
     let a = c.args in
-    let vertex = c.get_vertex-a.result in
-    let da : sub binary32 a.offset c.coordinate-in-loop-i.result ≡ distance a.axis a.offset vertex = ap (λ (x : Float). sub binary32 a.offset x) c.coordinate-in-loop-i.ensures in
-    let l = c.turn-p.new in
-    let δ : Divided = divided v.p (arrays v.xs v.ys v.zs) (arrays v.rx v.ry v.rz) in
-    let δ' : Divided = divided c.turn-p.result (arrays l.xs l.ys l.zs) (arrays l.rx l.ry l.rz) in
-    let few = grown-two (dividing a.to) v.i δ δ' v.b vertex v.db _ c.turn-p.ensures v.invariant.1 v.invariant.2 in (
-      omega (arith, c.loop-i-test.true),
-      few.0,
-      few.1,
-      da,
-      still-turn (dividing a.to) a.axis a.offset a.from a.n v.i v.b vertex v.db _ δ δ' c.requires.0 c.loop-i-test.true c.requires.2 v.invariant.2 c.get_vertex-a.ensures v.invariant.3 da c.turn-p.ensures
-          ∙ v.invariant.4,
-    )
+    let none = none-last a.vs.now c.in_default.ensures.value in
+    (sym (ap length (around-none (gives_first a.axis a.offset) a.vs.now none)), sym (ap length (around-none (gives_second a.axis a.offset) a.vs.now none)))
 
-pub returns : goal.returns
-returns c =
-    let v = c.loop-i in
+pub returns-in_default-clause-first : goal.returns-in_default-clause-first
+returns-in_default-clause-first g c =
     let a = c.args in
-    let δ = divided (counts_of 0 0) (arrays a.xs.now a.ys.now a.zs.now) (arrays a.rx.now a.ry.now a.rz.now) in
-    sym (still-none (dividing a.to) a.axis a.offset a.from a.n v.i v.b _ c.loop-i-test.false)
-    ∙ v.invariant.4
-    ∙ ap (λ (b : Corner). still (dividing a.to) a.axis a.offset a.from a.n 0 b δ) c.get_vertex-b.ensures
-    ∙ still-all (dividing a.to) a.axis a.offset a.from a.n δ c.requires.1
+    g.met.F.Part.holding_none _ ∙ ap (λ vs. g.F.Part.holding a.first.now vs) (sym (around-none (gives_first a.axis a.offset) a.vs.now (none-last a.vs.now c.in_default.ensures.value)))
+
+pub returns-in_default-clause-second : goal.returns-in_default-clause-second
+returns-in_default-clause-second g c =
+    let a = c.args in
+    g.met.S.Part.holding_none _ ∙ ap (λ vs. g.S.Part.holding a.second.now vs) (sym (around-none (gives_second a.axis a.offset) a.vs.now (none-last a.vs.now c.in_default.ensures.value)))
+
+pub loop-v-init : goal.loop-v-init
+unfolding onward
+loop-v-init g c = record {
+  few_first = omega arith;
+  few_second = omega arith;
+  before = refl;
+  offset_of = ap (λ (x : Float). sub binary32 c.args.offset x) c.coordinate.ensures;
+  many_first = refl;
+  many_second = refl;
+  first = g.met.F.Part.holding_none _;
+  second = g.met.S.Part.holding_none _;
+}
+
+pub turn-n-requires : goal.turn-n-requires
+turn-n-requires g c =
+    let v = c.loop-v in
+    (omega (arith, v.invariant.few_first, c.loop-v-test.true, c.requires), omega (arith, v.invariant.few_second, c.loop-v-test.true, c.requires))
+
+pub loop-v-preserved : goal.loop-v-preserved
+loop-v-preserved g c =
+    let v = c.loop-v in
+    let a = c.args in
+    let t = c.turn-n in
+    let inside = c.loop-v-test.true in
+    let b = c.in-Some.last.now in
+    let o : Corner = record { x = nan; y = nan; z = nan } in
+    let w = get_or a.vs.now v.v-index o in
+    let da = ap (λ (x : Float). sub binary32 a.offset x) c.coordinate-in-loop-v.ensures in
+    let firsts = turn-next a.axis a.offset to_first b o a.vs.now v.v-index inside v.b v.db _ v.invariant.before v.invariant.offset_of da in
+    let seconds = turn-next a.axis a.offset to_second b o a.vs.now v.v-index inside v.b v.db _ v.invariant.before v.invariant.offset_of da in
+    record {
+      few_first = omega (arith, t.ensures.counts.0, first_two v.b w v.db (sub binary32 a.offset c.coordinate-in-loop-v.result), v.invariant.few_first);
+      few_second = omega (arith, t.ensures.counts.1, second-two v.b w v.db (sub binary32 a.offset c.coordinate-in-loop-v.result), v.invariant.few_second);
+      before = last-next b o a.vs.now v.v-index inside;
+      offset_of = da;
+      many_first = ap length (sym firsts) ∙ length-append (onward (gives_first a.axis a.offset) b (take v.v-index a.vs.now)) _ ∙ rw (v.invariant.many_first) (sym t.ensures.counts.0);
+      many_second = ap length (sym seconds) ∙ length-append (onward (gives_second a.axis a.offset) b (take v.v-index a.vs.now)) _ ∙ rw (v.invariant.many_second) (sym t.ensures.counts.1);
+      first = t.ensures.first _ _ v.invariant.many_first v.invariant.first ∙ ap (λ vs. g.F.Part.holding a.first.now vs) firsts;
+      second = t.ensures.second _ _ v.invariant.many_second v.invariant.second ∙ ap (λ vs. g.S.Part.holding a.second.now vs) seconds;
+    }
+
+-- the round is over once all vertices are passed
+all-first : (g : Over) (c : After-loop-v g) → onward (gives_first c.args.axis c.args.offset) c.in-Some.last.now (take c.loop-v.v-index c.args.vs.now) ≡ first_of c.args.axis c.args.offset c.args.vs.now
+all-first g c =
+    let a = c.args in
+    let gives = gives_first a.axis a.offset in
+    onward-all gives c.in-Some.last.now a.vs.now c.loop-v.v-index c.loop-v.auto.v-index-end c.loop-v-test.false ∙ sym (around-last gives _ a.vs.now c.in-Some.ensures.value)
+
+all-second : (g : Over) (c : After-loop-v g) → onward (gives_second c.args.axis c.args.offset) c.in-Some.last.now (take c.loop-v.v-index c.args.vs.now) ≡ second_of c.args.axis c.args.offset c.args.vs.now
+all-second g c =
+    let a = c.args in
+    let gives = gives_second a.axis a.offset in
+    onward-all gives c.in-Some.last.now a.vs.now c.loop-v.v-index c.loop-v.auto.v-index-end c.loop-v-test.false ∙ sym (around-last gives _ a.vs.now c.in-Some.ensures.value)
+
+pub returns-clause-counts : goal.returns-clause-counts
+returns-clause-counts g c = (
+  sym c.loop-v.invariant.many_first ∙ ap length (all-first g c),
+  sym c.loop-v.invariant.many_second ∙ ap length (all-second g c),
+)
+
+pub returns-clause-first : goal.returns-clause-first
+returns-clause-first g c = c.loop-v.invariant.first ∙ ap (λ vs. g.F.Part.holding c.args.first.now vs) (all-first g c)
+
+pub returns-clause-second : goal.returns-clause-second
+returns-clause-second g c = c.loop-v.invariant.second ∙ ap (λ vs. g.S.Part.holding c.args.second.now vs) (all-second g c)

@@ -1,19 +1,22 @@
--- The loop's invariant: what the vertices from i on, with b before them, still make of the parts is what the whole round makes of them. So far no part has
--- more than two vertices for each one passed.
+-- The loop's invariant: both parts have what the vertices passed gave them, at most two for each.
 use mathlib.Core.Path.{◌≡◌}
-use Prim.Native.Nat.{◌+◌, ◌-◌, ◌≤◌}
-use Rattle.clip.specs.Cut.{distance}
-use Rattle.clip.specs.Arrays.{arrays, divided}
-use Rattle.clip.proofs.Turns.{still}
-use Rattle.clip.proofs.Rounds.{dividing}
+use Prim.Native.Nat.{◌+◌, ◌≤◌}
+use lib.ListN.{length, take}
+use Rattle.clip.specs.Cut.{distance, onward, last_of, gives_first, gives_second}
 use Rattle.clip.proofs.cut.go_round.Given as goal
 
-abbrev pub invariant-loop-i : goal.invariant-loop-i
-invariant-loop-i l = (l.i ≤ l.n)
-    × (l.p.first ≤ l.i + l.i)
-    × (l.p.second ≤ l.i + l.i)
-    × (l.db ≡ distance l.axis l.offset l.b)
-    × (still (dividing l.to) l.axis l.offset l.from l.n l.i l.b (divided l.p (arrays l.xs l.ys l.zs) (arrays l.rx l.ry l.rz)) ≡ still (dividing l.to) l.axis l.offset l.from l.n l.initial.i l.initial.b (divided l.initial.p (arrays l.initial.xs l.initial.ys l.initial.zs) (arrays l.initial.rx l.initial.ry l.initial.rz)))
-
-abbrev pub decreases-loop-i : goal.decreases-loop-i
-decreases-loop-i l = l.n - l.i
+abbrev pub invariant-loop-v : goal.invariant-loop-v
+invariant-loop-v g l =
+    let passed = take l.v-index l.vs in
+    let firsts = onward (gives_first l.axis l.offset) l.initial.b passed in
+    let seconds = onward (gives_second l.axis l.offset) l.initial.b passed in
+    record {
+      few_first : l.n.first ≤ l.v-index + l.v-index;
+      few_second : l.n.second ≤ l.v-index + l.v-index;
+      before : l.b ≡ last_of l.initial.b passed;
+      offset_of : l.db ≡ distance l.axis l.offset l.b;
+      many_first : length firsts ≡ l.n.first;
+      many_second : length seconds ≡ l.n.second;
+      first : l.first ≡ g.F.Part.holding l.fn.first firsts;
+      second : l.second ≡ g.S.Part.holding l.fn.second seconds;
+    }

@@ -1,50 +1,44 @@
--- `clip::poly::divide_poly` meets its contract: the polygon that `spread` writes is the one that `divide` cuts, and `gather` reads the parts back.
+-- `clip::poly::divide_poly` meets its contract.
 use borrow.Author.Rules.{rules}
-use mathlib.Core.Path.{◌≡◌, refl}
-use Prim.Native.Nat.{◌≤◌}
+use mathlib.Core.Path.{◌≡◌, ap, ◌∙◌}
 use native.Mathlib.Omega.{arith}
-use lib.ListN.{length, replicate}
-use lib.Ieee.{of_bits}
-use Rattle.clip.specs.Cut.{nought}
-use Rattle.clip.specs.Arrays.{Arrays, arrays}
-use Rattle.clip.proofs.Places.{Long}
-use Rattle.clip.proofs.Polys.{poly-many, first-refused, second-refused, both-gathered}
+use lib.ListN.{length}
+use Rattle.clip.specs.Poly.{poly_of, vertices_of}
+use Rattle.clip.specs.Cut.{first_of, second_of}
+use Rattle.clip.proofs.Rounds.{Fits, verdict-ok, refused-is, cut-fits}
+use Rattle.clip.proofs.Parts.{first-held, second-held, first-few, second-few}
+use Rattle.clip.proofs.Polys.{poly-many, poly-few, refusal, answer}
 use Rattle.clip.proofs.poly.divide_poly.Goals as goal
+use Rattle.clip.proofs.poly.divide_poly.Goals.{In_ok-divide}
 
 pub returns-then-p-gt7 : goal.returns-then-p-gt7
 returns-then-p-gt7 c =
     let a = c.args in
-    rw (poly-many a.axis a.offset a.p c.if-p-gt7.true) c.refused.ensures
+    refusal _ _ (poly-many a.axis a.offset a.p c.if-p-gt7.true) (search rules)
 
--- the arrays before anything is written
-zeros : Arrays
-zeros = arrays (replicate 28 nought) (replicate 28 nought) (replicate 28 nought)
-
-zeros-long : Long 28 zeros
-unfolding zeros
-zeros-long = record { xs-long = refl; ys-long = refl; zs-long = refl }
-
-pub returns-then-c-gt7 : goal.returns-then-c-gt7
-unfolding of_bits zeros
-returns-then-c-gt7 c =
+pub returns-in_err-divide : goal.returns-in_err-divide
+returns-in_err-divide c =
     let a = c.args in
     let seven : length a.p.at ≡ 7 = search rules in
-    let inside : a.p.n ≤ length a.p.at = omega (arith, c.if-p-gt7.false) in
-    rw (first-refused a.axis a.offset a.p c.if-p-gt7.false inside zeros _ _ zeros-long c.spread.ensures _ c.divide-c.ensures c.if-c-gt7.true) c.refused-then-c-gt7.ensures
+    refusal _ _ (poly-few a.axis a.offset a.p c.if-p-gt7.false (omega (arith, c.if-p-gt7.false)) ∙ refused-is _ c.in_err-divide.ensures.verdict) c.from_residual.ensures.0
 
-pub returns-then-c-gt7-2 : goal.returns-then-c-gt7-2
-unfolding of_bits zeros
-returns-then-c-gt7-2 c =
-    let a = c.args in
-    let seven : length a.p.at ≡ 7 = search rules in
-    let inside : a.p.n ≤ length a.p.at = omega (arith, c.if-p-gt7.false) in
-    rw (second-refused a.axis a.offset a.p c.if-p-gt7.false inside zeros _ _ zeros-long c.spread.ensures _ c.divide-c.ensures c.if-c-gt7.false (omega (arith, c.if-c-gt7-2.true))) c.refused-then-c-gt7-2.ensures
+fits : (c : In_ok-divide) → Fits c.args.axis c.args.offset (vertices_of c.args.p)
+fits c = verdict-ok _ _ _ c.in_ok-divide.ensures.verdict
+
+pub few-requires : goal.few-requires
+few-requires c = first-few (fits c.before) c.empty-first.result c.divide.ensures.first
+
+pub few-requires-2 : goal.few-requires-2
+few-requires-2 c = second-few (fits c.before.before.before) c.empty-second.result c.divide.ensures.second
 
 pub returns : goal.returns
-unfolding of_bits zeros
 returns c =
     let a = c.args in
     let seven : length a.p.at ≡ 7 = search rules in
-    let inside : a.p.n ≤ length a.p.at = omega (arith, c.if-p-gt7.false) in
-    rw (both-gathered a.axis a.offset a.p c.if-p-gt7.false inside zeros _ _ zeros-long c.spread.ensures _ c.divide-c.ensures zeros-long c.if-c-gt7.false c.if-c-gt7-2.false)
-    (record { said = refl; first-is = c.gather.ensures; second_is = c.gather-2.ensures })
+    let room : length c.empty-first.result.at ≡ 14 = search rules in
+    let room' : length c.empty-second.result.at ≡ 14 = search rules in
+    let f = fits c.before.before.before.before in
+    answer _ (first_of a.axis a.offset (vertices_of a.p)) (second_of a.axis a.offset (vertices_of a.p))
+    (poly-few a.axis a.offset a.p c.if-p-gt7.false (omega (arith, c.if-p-gt7.false)) ∙ cut-fits a.axis a.offset (vertices_of a.p) f)
+    (c.few.ensures ∙ ap poly_of (first-held f c.empty-first.result room c.divide.ensures.first))
+    (c.few-2.ensures ∙ ap poly_of (second-held f c.empty-second.result room' c.divide.ensures.second))

@@ -2,28 +2,25 @@
 -- were made than columns passed.
 use mathlib.Core.List.{List, ◌++◌}
 use Prim.Native.Nat.{ℕ, ◌+◌, ◌≤◌}
+use lib.ListN.{length}
 use Rattle.clip.specs.declared.cut.Axis.TheVariants.{X}
-use Rattle.clip.specs.Arrays.{half}
-use Rattle.clip.specs.Cell.{flat_at}
+use Rattle.clip.specs.Poly.{held}
+use Rattle.clip.specs.Rest.{left}
 use Rattle.clip.specs.Work.{edge_at, cell_events}
 use Rattle.field.specs.Field.{Field, Holds}
 use Rattle.field.specs.Carrying.{carry}
 use Rattle.field.specs.Working.{Remains, turns_to}
 use Rattle.rerecast.specs.Lent.{slots_of, SameSlots}
-use Rattle.rerecast.specs.Rasterize.{BothPlaces}
 use Rattle.rerecast.proofs.rows.columns.Given as goal
 
 abbrev pub invariant-loop-k : goal.invariant-loop-k
-invariant-loop-k l = record {
-  few : l.rest ≤ 7;
-  long : BothPlaces l.px l.py;
-  made : l.count + l.first ≤ l.made + l.k;
-  remains : (others : List ℕ) (f : Field) → Holds (l.initial.heads ++ others) (slots_of l.initial.slots) f
-      → Remains l.job.frame.width l.job.threshold l.job.area
-      (carry l.job.frame.width l.job.threshold l.job.area l.made f (turns_to X (edge_at l.job.frame X) (cell_events l.job.frame l.z) l.last l.first (flat_at l.xs l.ys 0 l.n)))
-      l.count
-      (turns_to X (edge_at l.job.frame X) (cell_events l.job.frame l.z) l.last l.k (flat_at l.px l.py (half l.upper) l.rest))
-      (l.heads ++ others)
-      (slots_of l.slots);
-  same : SameSlots l.initial.slots l.slots;
-}
+invariant-loop-k l = (length (left l.rest) ≤ 7)
+    × (l.count + l.first ≤ l.made + l.k)
+    × ((others : List ℕ) (f : Field) → Holds (l.initial.heads ++ others) (slots_of l.initial.slots) f
+    → Remains l.job.frame.width l.job.threshold l.job.area
+    (carry l.job.frame.width l.job.threshold l.job.area l.made f (turns_to X (edge_at l.job.frame X) (cell_events l.job.frame l.z) l.last l.first (held l.row)))
+    l.count
+    (turns_to X (edge_at l.job.frame X) (cell_events l.job.frame l.z) l.last l.k (left l.rest))
+    (l.heads ++ others)
+    (slots_of l.slots))
+    × SameSlots l.initial.slots l.slots

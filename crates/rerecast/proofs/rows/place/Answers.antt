@@ -1,30 +1,32 @@
 -- `rows::place` meets its contract.
+use mathlib.Core.Path.{refl}
 use native.Mathlib.Omega.{arith}
-use Rattle.clip.specs.declared.heights.Snap.TheVariants.{Outside, TooHigh, Span}
+use Rattle.std.specs.Prelude.{Some, None, Ok, Err}
 use Rattle.clip.specs.Snap.{max_height}
 use Rattle.clip.proofs.Snaps.{span-heights}
 use Rattle.field.proofs.Carrying.{remains-is, remains-of}
 use Rattle.field.proofs.Cells.{cell-is}
 use Rattle.rerecast.proofs.rows.place.Goals as goal
 
-pub put-requires : goal.put-requires
-put-requires c =
-    let heights = span-heights max_height _ _ _ _ _ c.snap_of.result c.snap_of.ensures _ _ c.in-Span.is in
+pub put-requires-clause-ready : goal.put-requires-clause-ready
+put-requires-clause-ready c =
+    let heights = span-heights max_height _ _ _ _ _ (Ok (Some c.in-Ok-Some.field-0-0)) (rw c.in-Ok-Some.field-0-is at c.in-Ok-Some.ensures) c.in-Ok-Some.field-0-0 refl in
     let ready = c.requires.ready in
-    record { ready = (ready.0, ready.1, ready.2, omega (arith, heights.0), ready.3); held = c.requires.held }
+    (ready.0, ready.1, ready.2, omega (arith, heights.0), ready.3)
 
-pub returns-in-Outside-clause-carries : goal.returns-in-Outside-clause-carries
-returns-in-Outside-clause-carries c others f part el eh H =
+pub returns-in-Ok-None-clause-carries : goal.returns-in-Ok-None-clause-carries
+returns-in-Ok-None-clause-carries c others f part el eh H =
     let a = c.args in
-    remains-is a.job.frame.width a.job.threshold a.job.area a.made (cell-is a.job.frame a.z a.x part _ _ el eh Outside c.in-Outside.ensures) H
+    remains-is a.job.frame.width a.job.threshold a.job.area a.made (cell-is a.job.frame a.z a.x part _ _ el eh (Ok None) (rw c.in-Ok-None.field-0-is at c.in-Ok-None.ensures)) H
 
-pub returns-in-TooHigh-clause-carries : goal.returns-in-TooHigh-clause-carries
-returns-in-TooHigh-clause-carries c others f part el eh H =
+pub returns-in-Err-clause-carries : goal.returns-in-Err-clause-carries
+returns-in-Err-clause-carries c others f part el eh H =
     let a = c.args in
-    remains-is a.job.frame.width a.job.threshold a.job.area a.made (cell-is a.job.frame a.z a.x part _ _ el eh TooHigh c.in-TooHigh.ensures) H
+    remains-is a.job.frame.width a.job.threshold a.job.area a.made (cell-is a.job.frame a.z a.x part _ _ el eh (Err c.in-Err.field-0) c.in-Err.ensures) H
 
-pub returns-in-Span-clause-carries : goal.returns-in-Span-clause-carries
-returns-in-Span-clause-carries c others f part el eh H =
+pub returns-in-Ok-Some-clause-carries : goal.returns-in-Ok-Some-clause-carries
+returns-in-Ok-Some-clause-carries c others f part el eh H =
     let a = c.args in
     remains-of a.job.frame.width a.job.threshold a.job.area a.made f
-    (cell-is a.job.frame a.z a.x part _ _ el eh (Span c.in-Span.floor c.in-Span.ceiling) c.in-Span.ensures) (c.put.ensures.carries others f H)
+    (cell-is a.job.frame a.z a.x part _ _ el eh (Ok (Some c.in-Ok-Some.field-0-0)) (rw c.in-Ok-Some.field-0-is at c.in-Ok-Some.ensures))
+    (c.put.ensures.carries others f H)

@@ -1,8 +1,9 @@
 -- `rows::row` meets its contract.
+use borrow.Author.Rules.{rules}
 use mathlib.Core.Path.{◌≡◌, sym, ap, ◌∙◌}
 use mathlib.Core.Bool.{true, false, ◌||◌}
 use mathlib.Core.List.{List, [], map}
-use Prim.Native.Nat.{ℕ, ◌+◌, ◌-◌, ◌≤◌, min}
+use Prim.Native.Nat.{ℕ, ◌+◌, ◌-◌}
 use native.Mathlib.Omega.{arith}
 use lib.IntN.{ℤ, pos}
 use lib.Signed.{lt_z, le_z}
@@ -12,33 +13,25 @@ use mir.Val.{SFits, to_z, of_z}
 use Rattle.grid.specs.declared.Corner.{Corner}
 use Rattle.clip.specs.declared.cut.Axis.TheVariants.{X}
 use Rattle.clip.specs.declared.frame.Frame.{Frame}
-use Rattle.clip.specs.Arrays.{numbers_at}
-use Rattle.clip.specs.Cell.{flat_at}
+use Rattle.clip.specs.Cut.{x_of}
+use Rattle.clip.specs.Poly.{held}
 use Rattle.clip.specs.Slices.{least_of, greatest_of, cell_of, held_first, held_last}
 use Rattle.clip.specs.Work.{first_cell, last_cell, edge_at, cell_events, row_events}
-use Rattle.clip.proofs.Flat.{xs-at}
 use Rattle.field.specs.Working.{numbered, turns_to}
 use Rattle.field.proofs.Carrying.{remains-is, remains-of}
-use Rattle.field.proofs.Cells.{all_of, row-missed, row-turns}
+use Rattle.field.proofs.Cells.{row-missed, row-turns}
 use Rattle.rerecast.proofs.Rasterizing.{cell-read, last-inside}
 use Rattle.rerecast.proofs.rows.row.Goals as goal
 
 -- a part whose xs reach from the column x₀ to the column x₁, as they are handed on
-module _ (f : Frame) (z : ℕ) (xs ys : List Float) (n : ℕ) (few : n ≤ 7) {x₀ x₁ : ℤ} (s₀ : SFits w32 x₀) (s₁ : SFits w32 x₁) {v₀ v₁ : Float}
-    (least : v₀ ≡ least_of (numbers_at xs 0 (min n 28))) (greatest : v₁ ≡ greatest_of (numbers_at xs 0 (min n 28)))
+module _ (f : Frame) (z : ℕ) (part : List Corner) {x₀ x₁ : ℤ} (s₀ : SFits w32 x₀) (s₁ : SFits w32 x₁) {v₀ v₁ : Float}
+    (least : v₀ ≡ least_of (map x_of part)) (greatest : v₁ ≡ greatest_of (map x_of part))
     (e₀ : x₀ ≡ cell_of f.grid.min.x f.inverse v₀) (e₁ : x₁ ≡ cell_of f.grid.min.x f.inverse v₁) where
-  abbrev part : List Corner
-  part = flat_at xs ys 0 n
-
-  -- the part's xs are the numbers that were put together
-  xs-are : numbers_at xs 0 (min n 28) ≡ map (λ v. v.x) part
-  xs-are = ap (λ (m : ℕ). numbers_at xs 0 m) (all_of n (omega arith)) ∙ sym (xs-at xs ys 0 n)
-
   first-is : to_z w32 (of_z w32 x₀) ≡ first_cell f X part
-  first-is = cell-read f.grid.min.x f.inverse s₀ e₀ (least ∙ ap least_of xs-are)
+  first-is = cell-read f.grid.min.x f.inverse s₀ e₀ least
 
   last-is : to_z w32 (of_z w32 x₁) ≡ last_cell f X part
-  last-is = cell-read f.grid.min.x f.inverse s₁ e₁ (greatest ∙ ap greatest_of xs-are)
+  last-is = cell-read f.grid.min.x f.inverse s₁ e₁ greatest
 
   -- before the grid or behind it the part has no work
   missed : lt_z (to_z w32 (of_z w32 x₁)) (pos 0) || le_z (pos f.width) (to_z w32 (of_z w32 x₀)) ≡ true → row_events f z part ≡ []
@@ -55,8 +48,9 @@ returns-then-misses-clause-carries c others f H =
     let a = c.args in
     let x₀ = c.cell_at-x0 in
     let x₁ = c.cell_at-x1 in
-    let none = missed a.job.frame a.z a.xs.now a.ys.now a.n c.requires.ready.2 (record { sfits = x₀.type_inv }) (record { sfits = x₁.type_inv })
-    c.least_of.ensures c.greatest_of.ensures x₀.ensures x₁.ensures (sym c.misses.ensures ∙ c.if-misses.true) in
+    let least : c.least_of.result ≡ least_of (map x_of (held a.part.now)) = c.least_of.ensures x_of (search rules) ∙ ap (λ (vs : List Corner). least_of (map x_of vs)) c.vertices-vs.ensures.value in
+    let greatest : c.greatest_of.result ≡ greatest_of (map x_of (held a.part.now)) = c.greatest_of.ensures x_of (search rules) ∙ ap (λ (vs : List Corner). greatest_of (map x_of vs)) c.vertices-vs.ensures.value in
+    let none = missed a.job.frame a.z (held a.part.now) (record { sfits = x₀.type_inv }) (record { sfits = x₁.type_inv }) least greatest x₀.ensures x₁.ensures (sym c.misses.ensures ∙ c.if-misses.true) in
     remains-is a.job.frame.width a.job.threshold a.job.area a.made none H
 
 pub overflow_add-last : goal.overflow_add-last
@@ -67,14 +61,15 @@ overflow_add-last c =
 pub columns-requires-clause-ready : goal.columns-requires-clause-ready
 columns-requires-clause-ready c =
     let ready = c.requires.ready in
-    (ready.0, ready.1, ready.2, last-inside c.args.job.frame.width _ ready.0.sides.some-wide c.held_last-last.ensures, ready.3, ready.4)
+    (ready.0, ready.1, ready.2, last-inside c.args.job.frame.width _ ready.0.sides.some-wide c.held_last-last.ensures, ready.3)
 
 pub returns-clause-carries : goal.returns-clause-carries
 returns-clause-carries c others f H =
     let a = c.args in
     let x₀ = c.cell_at-x0 in
     let x₁ = c.cell_at-x1 in
-    let each = turns a.job.frame a.z a.xs.now a.ys.now a.n c.requires.ready.2 (record { sfits = x₀.type_inv }) (record { sfits = x₁.type_inv })
-    c.least_of.ensures c.greatest_of.ensures x₀.ensures x₁.ensures (sym c.misses.ensures ∙ c.if-misses.false)
-    c.first_of-first.result c.held_last-last.result c.first_of-first.ensures c.held_last-last.ensures in
+    let least : c.least_of.result ≡ least_of (map x_of (held a.part.now)) = c.least_of.ensures x_of (search rules) ∙ ap (λ (vs : List Corner). least_of (map x_of vs)) c.vertices-vs.ensures.value in
+    let greatest : c.greatest_of.result ≡ greatest_of (map x_of (held a.part.now)) = c.greatest_of.ensures x_of (search rules) ∙ ap (λ (vs : List Corner). greatest_of (map x_of vs)) c.vertices-vs.ensures.value in
+    let each = turns a.job.frame a.z (held a.part.now) (record { sfits = x₀.type_inv }) (record { sfits = x₁.type_inv }) least greatest x₀.ensures x₁.ensures
+    (sym c.misses.ensures ∙ c.if-misses.false) c.first_of-first.result c.held_last-last.result c.first_of-first.ensures c.held_last-last.ensures in
     remains-of a.job.frame.width a.job.threshold a.job.area a.made f each (c.columns.ensures.carries others f H)

@@ -2,10 +2,11 @@
 -- insertions were made than the rows passed have cells.
 use mathlib.Core.List.{List, ◌++◌}
 use Prim.Native.Nat.{ℕ, ◌*◌, ◌≤◌}
+use lib.ListN.{length}
 use Rattle.clip.specs.declared.cut.Axis.TheVariants.{Z}
-use Rattle.clip.specs.Arrays.{arrays, polygon_at, half}
+use Rattle.clip.specs.Poly.{held}
+use Rattle.clip.specs.Rest.{left}
 use Rattle.clip.specs.Work.{edge_at, row_events}
-use Rattle.clip.proofs.Places.{Long}
 use Rattle.field.specs.Field.{Field, Holds}
 use Rattle.field.specs.Carrying.{carry}
 use Rattle.field.specs.Working.{Remains, turns_to}
@@ -13,17 +14,13 @@ use Rattle.rerecast.specs.Lent.{slots_of, SameSlots}
 use Rattle.rerecast.proofs.rows.rows.Given as goal
 
 abbrev pub invariant-loop-k : goal.invariant-loop-k
-invariant-loop-k l = record {
-  few : l.rest ≤ 7;
-  long : Long 28 (arrays l.px l.py l.pz);
-  part-long : Long 28 (arrays l.rx l.ry l.rz);
-  made : l.count ≤ l.k * 4097;
-  remains : (others : List ℕ) (f : Field) → Holds (l.initial.heads ++ others) (slots_of l.initial.slots) f
-      → Remains l.job.frame.width l.job.threshold l.job.area
-      (carry l.job.frame.width l.job.threshold l.job.area 0 f (turns_to Z (edge_at l.job.frame Z) (row_events l.job.frame) l.last l.first (polygon_at (arrays l.xs l.ys l.zs) 0 3)))
-      l.count
-      (turns_to Z (edge_at l.job.frame Z) (row_events l.job.frame) l.last l.k (polygon_at (arrays l.px l.py l.pz) (half l.upper) l.rest))
-      (l.heads ++ others)
-      (slots_of l.slots);
-  same : SameSlots l.initial.slots l.slots;
-}
+invariant-loop-k l = (length (left l.rest) ≤ 7)
+    × (l.count ≤ l.k * 4097)
+    × ((others : List ℕ) (f : Field) → Holds (l.initial.heads ++ others) (slots_of l.initial.slots) f
+    → Remains l.job.frame.width l.job.threshold l.job.area
+    (carry l.job.frame.width l.job.threshold l.job.area 0 f (turns_to Z (edge_at l.job.frame Z) (row_events l.job.frame) l.last l.first (held l.triangle)))
+    l.count
+    (turns_to Z (edge_at l.job.frame Z) (row_events l.job.frame) l.last l.k (left l.rest))
+    (l.heads ++ others)
+    (slots_of l.slots))
+    × SameSlots l.initial.slots l.slots
