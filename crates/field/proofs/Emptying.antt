@@ -1,13 +1,12 @@
 -- A fresh field: slices filled with one value, and the chain of all slots.
 use mathlib.Core.Path.{◌≡◌, refl, sym, ap, ◌∙◌}
-use mathlib.Core.List.{List, [], ◌++◌, append-nil}
-use Prim.Native.Nat.{ℕ, zero, suc, ◌+◌, ◌-◌, ◌<◌, ◌≤◌}
+use mathlib.Core.List.{List, [], ◌++◌}
+use Prim.Native.Nat.{ℕ, zero, suc, ◌+◌, ◌<◌, ◌≤◌}
 use native.Mathlib.Omega.{arith}
 use native.Mathlib.Decide.{ℕ_discrete}
-use borrow.Author.Fill.{fill_more}
 use borrow.Author.Tests.{eq-eqb, ne_eqb}
-use lib.ListN.{length, get_or, set, take, drop, replicate, length-set, length-replicate, get_or-replicate}
-use lib.Seq.{get_or-set_same, get_or-set_other, drop-length, length-take-le, take_at, drop_at}
+use lib.ListN.{length, get_or, take, drop, replicate, length-replicate, get_or-replicate}
+use lib.Seq.{length-take-le, take_at, drop_at}
 use Rattle.replies.specs.Said.{just}
 use Rattle.field.specs.Slots.{none, Slots, slots, Run, times, times_in}
 use Rattle.field.specs.Field.{Holds, count_from, fresh_field, ranges}
@@ -18,66 +17,11 @@ use Rattle.field.proofs.Basics.{by-dec}
 use Rattle.field.proofs.Counting.{same-other, same-eq}
 use Rattle.field.proofs.Stretching.{Covers, covers-none}
 
--- ---- a slice filled with one value
-
--- `s` is `s₀` with its first `i` elements `v`
-pub record Filling (v : ℕ) (s₀ : List ℕ) (s : List ℕ) (i : ℕ) : Type 0 where
-  pub is : s ≡ replicate i v ++ drop i s₀
-  pub within : i ≤ length s₀
-  pub size : length s ≡ length s₀
-
-pub filling-start : (v : ℕ) (s : List ℕ) → Filling v s s 0
-filling-start v s = record { is = refl; within = omega arith; size = refl }
-
-pub filling-turn : {v : ℕ} {s₀ s : List ℕ} {i : ℕ} → Filling v s₀ s i → i < length s → Filling v s₀ (set s i v) (i + 1)
-filling-turn {v} {s₀} {s} {i} f l =
-    let m : i < length s₀ = omega (arith, f.size) in
-    record {
-      is = ap (λ (l : List ℕ). set l i v) f.is ∙ fill_more i v s₀ m;
-      within = omega arith;
-      size = length-set s i v ∙ f.size;
-    }
-
-pub filling-end : {v : ℕ} {s₀ s : List ℕ} {i : ℕ} → Filling v s₀ s i → length s ≤ i → s ≡ replicate (length s₀) v
-filling-end {v} {s₀} {s} {i} f l =
-    let e : i ≡ length s₀ = omega (arith, f.size, f.within) in
-    f.is ∙ rw (e, drop-length, append-nil)
-
 -- ---- the chain of all slots
-
--- each of the first `i` slots has the one after it next
-pub record Numbering (nx₀ nx : List ℕ) (n i : ℕ) : Type 0 where
-  pub size : length nx ≡ length nx₀
-  pub whole : n ≡ length nx₀
-  pub within : i ≤ n
-  pub small : (0 < n) × (n ≤ 1048576)
-  pub done : (k : ℕ) → k < i → get_or nx k 0 ≡ suc k
-
-pub numbering-turn : {nx₀ nx : List ℕ} {n i : ℕ} → Numbering nx₀ nx n i → i < n → Numbering nx₀ (set nx i (i + 1)) n (i + 1)
-numbering-turn {nx₀} {nx} {n} {i} h l =
-    record {
-      size = length-set nx i (i + 1) ∙ h.size;
-      whole = h.whole;
-      within = omega arith;
-      small = h.small;
-      done =
-          λ k p.
-          by-dec (ℕ_discrete k i) (λ e. rw e (get_or-set_same nx i (i + 1) 0 (omega (arith, h.size, h.whole)) ∙ omega arith))
-          (λ d. get_or-set_other nx i k (i + 1) 0 d ∙ h.done k (omega arith));
-    }
 
 -- each slot has the next one after it, and the last none
 abbrev pub Numbered : ℕ → List ℕ → Type 0
 Numbered n nx = (length nx ≡ n) × ((k : ℕ) → k < n → get_or nx k 0 ≡ after n k)
-
-pub numbering-end : {nx₀ nx : List ℕ} {n i : ℕ} → Numbering nx₀ nx n i → n ≤ i → Numbered (length nx₀) (set nx (n - 1) none)
-numbering-end {nx₀} {nx} {n} {i} h l = (
-  length-set nx (n - 1) none ∙ h.size,
-  λ k p.
-      by-dec (ℕ_discrete k (n - 1))
-      (λ e. rw (e, eq-eqb (suc (n - 1)) (length nx₀) (omega (arith, h.whole, h.small))) (get_or-set_same nx (n - 1) none 0 (omega (arith, h.whole, h.size, h.small))))
-      (λ d. rw (ne_eqb (suc k) (length nx₀) (λ q. d (omega (arith, h.whole)))) (get_or-set_other nx (n - 1) k none 0 d ∙ h.done k (omega (arith, h.whole)))),
-)
 
 run-count : (nx : List ℕ) (N : ℕ) → Numbered N nx → (m k : ℕ) → k + m ≡ N → 0 < m → Run nx k (count_from k m) none
 run-count nx N z zero k e p = absurd (omega arith)

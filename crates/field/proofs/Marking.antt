@@ -179,9 +179,6 @@ module _ {nx mk₀ : List ℕ} {head : ℕ} {mk : List ℕ} {at n : ℕ} (p : Ma
   pub run-twice : get_or mk' to 0 ≢ 0 → Broken nx mk₀ head Any
   run-twice = marking-twice turned still-there
 
-  pub run-sizes : (length mk' ≡ length mk₀) × (length mk' ≡ length nx)
-  run-sizes = (turned.size, turned.size ∙ p.size₀)
-
   pub run_room : (from ≤ to) × (n + (to - from) ≤ 1048576)
   run_room = (turn_up t, marking-room turned)
 

@@ -22,21 +22,23 @@ module _ (w h x z : ℕ) (new : Span) (th : ℕ) (heads : List ℕ) (t : Slots) 
   first-long : length (take n heads) ≡ w * h
   first-long = length-take-le n heads (omega arith) ∙ en
 
-  -- the column is one of the first heads, and these hold the field, with no others behind them
-  pub insert-ready : Held (take (w * h) heads) t → (col < length (take n heads)) × ((others : List ℕ) × Held (take n heads ++ others) t)
-  insert-ready held =
-      (omega (arith, first-long, cell_below x z w h xw zh), ([], rw (append-nil (take n heads), en) held))
-
   module _ (order : new.floor ≤ new.ceiling) (held : Held (take (w * h) heads) t) (part : List ℕ) (t' : Slots) (size : length part ≡ length (take n heads)) where
-    -- what the insertion answers and leaves
+    -- what the insertion answers and leaves, at the code's own names for the column and the first heads, with any others behind them
     abbrev pub Answers : Bool → Type 0
-    Answers b = (f : Field) → Holds (take (w * h) heads) t f → ((insert th f (x + z * w) new).accepted ≡ b) × Holds part t' (insert th f (x + z * w) new).field
+    Answers b =
+        (others : List ℕ) (f : Field) → Holds (take n heads ++ others) t f → ((insert th f col new).accepted ≡ b) × Holds (part ++ others) t' (insert th f col new).field
+
+    -- so for the field that the first heads hold
+    answered : {b : Bool} → Answers b → ((insert th held.0 (x + z * w) new).accepted ≡ b) × Holds part t' (insert th held.0 (x + z * w) new).field
+    answered S =
+        let k = S [] held.0 (rw (append-nil (take n heads), en) held.1) in
+        (rw ec at k.0, rw (append-nil, ec) at k.1)
 
     pub offer-accepted : Answers true → Offers w h x z new th (store heads t marks) (left (just 0) (store (part ++ drop n heads) t' (replicate (length t.nexts) 0)))
     offer-accepted S =
         let f = held.0 in
         let H = held.1 in
-        let k = S f H in
+        let k = answered S in
         inr (
           (xw, zh),
           inr (
@@ -61,15 +63,9 @@ module _ (w h x z : ℕ) (new : Span) (th : ℕ) (heads : List ℕ) (t : Slots) 
     offer-refused S =
         let f = held.0 in
         let H = held.1 in
-        let k = S f H in
+        let k = answered S in
         let l : x + z * w < length (take (w * h) heads) = omega (arith, length-take-le (w * h) heads enough, cell_below x z w h xw zh) in
         let same : (insert th f (x + z * w) new).field ≡ f = refused-field H (x + z * w) l new th order k.0 in
         let fixed = store-fixed (subst (λ (g : Field). Holds part t' g) same k.1) H in
         let whole : part ++ drop n heads ≡ heads = rw (fixed.0, en) (take-append-drop (w * h) heads) in
         inr ((xw, zh), inr (order, (f, H, inl (λ e. true-false (sym e ∙ k.0), λ i. left (just 5) (store (whole i) (fixed.1 i) (replicate (length t.nexts) 0))))))
-
-    -- as the code has it, at its own names for the column and the first heads
-    pub answers : {b : Bool} → ((others : List ℕ) (f : Field) → Holds (take n heads ++ others) t f → ((insert th f col new).accepted ≡ b) × Holds (part ++ others) t' (insert th f col new).field) → Answers b
-    answers S f H =
-        let k = S [] f (rw (append-nil (take n heads), en) H) in
-        (rw ec at k.0, rw (append-nil, ec) at k.1)

@@ -1,18 +1,16 @@
 -- A mesh offered to a sound field: what its tests say, and what its triangles leave in terms of the whole store.
-use mathlib.Core.Path.{◌≡◌, refl, sym, ap, subst, ◌∙◌}
+use mathlib.Core.Path.{◌≡◌, refl, ap, subst, ◌∙◌}
 use mathlib.Core.Logic.{inl, inr}
-use mathlib.Core.Bool.{Bool, true, false, cond}
-use mathlib.Core.List.{List, [], ◌∷◌, ◌++◌, map, append-nil}
-use Prim.Native.Nat.{ℕ, ◌+◌, ◌*◌, ◌<◌, ◌≤◌}
+use mathlib.Core.Bool.{Bool, cond}
+use mathlib.Core.List.{List, [], ◌++◌, append-nil}
+use Prim.Native.Nat.{ℕ, ◌*◌, ◌<◌, ◌≤◌}
 use native.Mathlib.Nat.{mul-pos}
-use native.Mathlib.Numerals.{add-one}
 use native.Mathlib.Omega.{arith}
-use lib.ListN.{length, get_or, take, drop, replicate}
-use lib.Seq.{length-take-le, take_at, drop_at, drop-cons, drop-length}
-use lib.Ieee.{Float, nan}
-use Rattle.replies.specs.Said.{Said, real, say, just, Asks}
+use lib.ListN.{length, take, drop, replicate}
+use lib.Seq.{length-take-le, take_at, drop_at}
+use Rattle.replies.specs.Said.{Said, just, Asks}
 use Rattle.grid.specs.declared.Grid.{Grid}
-use Rattle.grid.specs.Grid.{columns, grid_says, coordinate_ok, coordinate, first_outside}
+use Rattle.grid.specs.Grid.{columns, grid_says}
 use Rattle.grid.proofs.Accepted.{accepted}
 use Rattle.field.specs.Slots.{Slots}
 use Rattle.field.specs.Field.{Field, Holds, Held}
@@ -21,25 +19,6 @@ use Rattle.field.specs.Inner.{Says}
 use Rattle.field.specs.Carrying.{Meshed, says_of, leaves}
 use Rattle.field.specs.Meshes.{Mesh, Shaped, Named, vertices_say, Builds, Takes, Given}
 use Rattle.field.proofs.Basics.{by-test}
-
--- ---- reply 1 over the vertex numbers, one after another
-
-module _ (l : List Float) (i : ℕ) (said : Said) (now : first_outside (map coordinate (drop i l)) (just 0) ≡ said) where
-  here : i < length l → cond (coordinate_ok (get_or l i nan)) (first_outside (map coordinate (drop (i + 1) l)) (just 0)) (say 1 (real (get_or l i nan) ∷ [])) ≡ said
-  unfolding first_outside
-  here h = ap (λ (k : List Float). first_outside (map coordinate k) (just 0)) (sym (drop-cons l i nan h ∙ ap (λ (j : ℕ). get_or l i nan ∷ drop j l) (sym (add-one i)))) ∙ now
-
-  pub outside-next : i < length l → coordinate_ok (get_or l i nan) ≡ true → first_outside (map coordinate (drop (i + 1) l)) (just 0) ≡ said
-  outside-next h e = rw e at (here h)
-
-  pub outside-here : i < length l → coordinate_ok (get_or l i nan) ≡ false → say 1 (real (get_or l i nan) ∷ []) ≡ said
-  outside-here h e = rw e at (here h)
-
-  pub outside-none : i ≤ length l → length l ≤ i → just 0 ≡ said
-  unfolding first_outside
-  outside-none h k =
-      let e : i ≡ length l = omega arith in
-      ap (λ (m : List Float). first_outside (map coordinate m) (just 0)) (sym (ap (λ (j : ℕ). drop j l) e ∙ drop-length l)) ∙ now
 
 -- ---- a mesh past its own tests
 

@@ -5,7 +5,7 @@ use mathlib.Core.Bool.{Bool, cond}
 use mathlib.Core.List.{List}
 use Prim.Native.Nat.{ℕ, ◌*◌, ◌≤◌}
 use lib.ListN.{length, take, replicate}
-use Rattle.std.specs.Prelude.{Ok, Err}
+use Rattle.std.specs.Prelude.{Result, Ok, Err}
 use Rattle.replies.specs.Said.{Said}
 use Rattle.grid.specs.declared.Grid.{Grid}
 use Rattle.grid.specs.declared.sizes.Size.{Size}
@@ -26,6 +26,7 @@ use Rattle.rerecast.specs.Lent.{slots_of}
 use Rattle.rerecast.specs.Inner.{AdmitsCall}
 use Rattle.rerecast.specs.MeshAdmission.{AdmitsNumbers, Passes, AdmitsMesh}
 use Rattle.rerecast.specs.Rasterize.{Sides}
+use Rattle.rerecast.proofs.Admitted.{with_size}
 use Rattle.rerecast.proofs.GivenBack.{GivenBack, given-back}
 
 -- ---- the tests one after another
@@ -35,27 +36,25 @@ module _ (g : Grid) (m : Mesh) (s : Store) (marks' : List ℕ) (shaped : Bool) (
   pub not-admitted : (q : Refusal) → AdmitsCall (Err q) g shortest s marks' → AdmitsMesh (Err q) g m s marks'
   not-admitted q A build = mesh-refused g m s shaped S shortest es build (left (refusal_says q) (store s.heads s.slots marks')) A
 
-  -- past them, refused by those of the numbers, or past these too
-  module _ (size : Size) (A : AdmitsCall (Ok size) g shortest s marks') where
-    pub not-numbers : (q : Refusal) → AdmitsNumbers (Err q) m → AdmitsMesh (Err q) g m s marks'
-    not-numbers q N build =
-        admits-past left g s (Takes (columns g) m build s) (left (refusal_says q) (store s.heads s.slots marks')) A.0 (A.1.1.fits.0, served g m s shaped S shortest es A.0 A.1.1.fits.1)
-        A.1.1.sound
-        (rw A.1.1.zeros (numbers-refused m (columns g) build s (refusal_says q) N))
-
-    pub all-admitted : AdmitsNumbers (Ok tt) m → AdmitsMesh (Ok size) g m s marks'
-    all-admitted N =
-        record {
-          fine = A.0;
-          wide = A.1.0.0;
-          high = A.1.0.1;
-          fits = A.1.1.fits.0;
-          sound = A.1.1.sound;
-          zeros = A.1.1.zeros;
-          shaped = served g m s shaped S shortest es A.0 A.1.1.fits.1;
-          named = N.0;
-          inside = N.1;
-        }
+  -- past them, what those of the numbers say
+  pub numbers-tested : (r : Result Unit Refusal) (size : Size) → AdmitsCall (Ok size) g shortest s marks' → AdmitsNumbers r m → AdmitsMesh (with_size size r) g m s marks'
+  numbers-tested (Ok done) size A N =
+      record {
+        fine = A.0;
+        wide = A.1.0.0;
+        high = A.1.0.1;
+        fits = A.1.1.fits.0;
+        sound = A.1.1.sound;
+        zeros = A.1.1.zeros;
+        shaped = served g m s shaped S shortest es A.0 A.1.1.fits.1;
+        named = N.0;
+        inside = N.1;
+      }
+  numbers-tested (Err q) size A N =
+      λ build.
+      admits-past left g s (Takes (columns g) m build s) (left (refusal_says q) (store s.heads s.slots marks')) A.0 (A.1.1.fits.0, served g m s shaped S shortest es A.0 A.1.1.fits.1)
+      A.1.1.sound
+      (rw A.1.1.zeros (numbers-refused m (columns g) build s (refusal_says q) N))
 
 -- ---- past all of them
 

@@ -10,7 +10,7 @@ use crate::lent::Columns;
 use crate::soundness::is_sound;
 use grid::{Grid, Size};
 
-// Whether slices of these lengths fit a grid of `n` columns.
+// Whether slices of these lengths fit a grid of `n` columns. It takes lengths, since one caller is lent the slots to read and one to change them.
 pub(crate) fn slices_fit(
     n: usize,
     heads: usize,
@@ -44,13 +44,7 @@ fn admit_store(
         areas.len(),
         columns.nexts.len(),
     );
-    if !fit {
-        return Err(Refusal::Slices);
-    }
-    if marks.len() != columns.nexts.len() {
-        return Err(Refusal::Slices);
-    }
-    if shortest < n {
+    if !fit || marks.len() != columns.nexts.len() || shortest < n {
         return Err(Refusal::Slices);
     }
     let held = Columns {

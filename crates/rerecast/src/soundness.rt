@@ -23,18 +23,12 @@ fn mark_column(columns: &Columns<'_>, marks: &mut [u8], head: u32, seen: usize) 
     let mut n = seen;
     while at != NONE {
         let i = at as usize;
-        if i >= columns.nexts.len() {
-            return None;
-        }
-        if marks[i] != 0 {
+        if i >= columns.nexts.len() || marks[i] != 0 {
             return None;
         }
         let floor = u32::from(columns.floors[i]);
         let ceiling = u32::from(columns.ceilings[i]);
-        if floor < low {
-            return None;
-        }
-        if ceiling < floor {
+        if floor < low || ceiling < floor {
             return None;
         }
         marks[i] = 1;
@@ -52,10 +46,7 @@ fn mark_run(nexts: &[u32], marks: &mut [u8], from: usize) -> usize
     ensures { InTurn nexts.now marks.old from result marks.new }
 {
     for i in from..nexts.len() {
-        if nexts[i] != (i + 1) as u32 {
-            return i;
-        }
-        if marks[i] != 0 {
+        if nexts[i] != (i + 1) as u32 || marks[i] != 0 {
             return i;
         }
         marks[i] = 1;
@@ -74,10 +65,7 @@ fn mark_free(nexts: &[u32], marks: &mut [u8], head: u32, seen: usize) -> Option<
     while at != NONE {
         let from = at as usize;
         let i = mark_run(nexts, marks, from);
-        if i >= nexts.len() {
-            return None;
-        }
-        if marks[i] != 0 {
+        if i >= nexts.len() || marks[i] != 0 {
             return None;
         }
         marks[i] = 1;

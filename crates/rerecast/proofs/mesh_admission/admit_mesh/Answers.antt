@@ -1,7 +1,7 @@
 -- `mesh_admission::admit_mesh` meets its contract: the tests of every call, then those of the mesh's numbers.
-use Rattle.std.proofs.Common.{◌≡◌, cond, length, arith}
+use Rattle.std.proofs.Common.{◌≡◌, cond, length, Ok, Err, arith}
 use Rattle.std.proofs.lemmas.Result.{err_from_is_err_and}
-use Rattle.rerecast.proofs.MeshAdmitted.{not-admitted, not-numbers, all-admitted}
+use Rattle.rerecast.proofs.MeshAdmitted.{not-admitted, numbers-tested}
 use Rattle.rerecast.proofs.mesh_admission.admit_mesh.Goals as goal
 
 pub returns-in_err-size : goal.returns-in_err-size
@@ -15,9 +15,9 @@ returns-in_err-admit_numbers c =
     let shortest : c.if-mesh_shaped.shortest ≡ cond c.mesh_shaped.result (length c.args.columns.now.heads.now) 0 = grind arith in
     let p = err_from_is_err_and c.from_residual-in_err-admit_numbers.result c.from_residual-in_err-admit_numbers.ensures.1 in
     rw (p.1, p.2)
-    (not-numbers _ _ _ _ c.mesh_shaped.result c.mesh_shaped.ensures _ shortest c.in_ok-size.size c.in_ok-size.ensures _ c.in_err-admit_numbers.ensures)
+    (numbers-tested _ _ _ _ c.mesh_shaped.result c.mesh_shaped.ensures _ shortest (Err _) c.in_ok-size.size c.in_ok-size.ensures c.in_err-admit_numbers.ensures)
 
 pub returns : goal.returns
 returns c =
     let shortest : c.if-mesh_shaped.shortest ≡ cond c.mesh_shaped.result (length c.args.columns.now.heads.now) 0 = grind arith in
-    all-admitted _ _ _ _ c.mesh_shaped.result c.mesh_shaped.ensures _ shortest c.in_ok-size.size c.in_ok-size.ensures c.in_ok-admit_numbers.ensures
+    numbers-tested _ _ _ _ c.mesh_shaped.result c.mesh_shaped.ensures _ shortest (Ok tt) c.in_ok-size.size c.in_ok-size.ensures c.in_ok-admit_numbers.ensures
