@@ -1,5 +1,5 @@
 -- Of polygons by value: what `divide_poly` owes, by how many vertices there are, and an answer that fixes all of it.
-use mathlib.Core.Path.{◌≡◌, refl, sym, ◌∙◌}
+use mathlib.Core.Path.{◌≡◌, refl, sym, ap, ◌∙◌}
 use mathlib.Core.List.{List}
 use Prim.Native.Nat.{ℕ, ◌≤◌, ◌<◌}
 use native.Mathlib.Omega.{arith}
@@ -7,14 +7,15 @@ use lib.ListN.{length}
 use lib.Seq.{length-take-le}
 use lib.Ieee.{Float}
 use borrow.Author.Tests.{le-leb, lt-leb}
-use Rattle.std.specs.Prelude.{Result, Ok, Err, IsErr}
+use Rattle.std.specs.Prelude.{Result, Ok, Err, IsErr, is_ok}
+use Rattle.replies.specs.Said.{Said}
 use Rattle.grid.specs.declared.Corner.{Corner}
 use Rattle.clip.specs.declared.cut.Axis.{Axis}
 use Rattle.clip.specs.declared.cut.EighthVertex.{EighthVertex}
 use Rattle.clip.specs.declared.poly.Poly.{Poly}
 use Rattle.clip.specs.declared.poly.Parts.{Parts}
 use Rattle.clip.specs.Cut.{Cut, parts, eighth, slice_cut}
-use Rattle.clip.specs.Poly.{vertices_of, poly_of, poly_cut, Answers}
+use Rattle.clip.specs.Poly.{vertices_of, poly_of, poly_cut, said_of, Answers}
 
 -- ---- a polygon of at most 7 vertices, and one that names more
 pub poly-few : (axis : Axis) (offset : Float) (p : Poly) → p.n ≤ 7 → p.n ≤ length p.at → poly_cut axis offset p ≡ slice_cut axis offset (vertices_of p)
@@ -34,6 +35,13 @@ refusal cut (Err x) e h = rw e (record { said = refl; parts-are = tt })
 
 pub answer : (cut : Cut) (f s : List Corner) {first second : Poly} → cut ≡ parts f s → first ≡ poly_of f → second ≡ poly_of s → Answers cut (Ok (record { first = first; second = second }))
 answer cut f s e p q = rw e (record { said = refl; parts-are = (p, q) })
+
+-- ---- what is said tells the answers apart: one that says 0 has parts, and one that says 6 has none
+pub said-once : (a b : Result Parts EighthVertex) → said_of a ≡ said_of b → is_ok a ≡ is_ok b
+said-once (Ok p) (Ok q) e = refl
+said-once (Ok p) (Err d) e = let n = ap (λ (s : Said). s.number) e in absurd (omega (arith, n))
+said-once (Err d) (Ok q) e = let n = ap (λ (s : Said). s.number) e in absurd (omega (arith, n))
+said-once (Err d) (Err e) f = refl
 
 -- ---- a cut has one answer
 pub one_answer : (cut : Cut) (r r' : Result Parts EighthVertex) → Answers cut r → Answers cut r' → r ≡ r'
