@@ -5,7 +5,15 @@ use Rattle.std.specs.Float.{binary32}
 use Rattle.std.specs.Float.Ieee.{add, sub, mul, of_int, to_signed}
 use Rattle.ops.specs.Order.{lesser_of, greater_of}
 use Rattle.grid.specs.declared.Corner.{Corner}
-use Rattle.clip.specs.Cut.{nought}
+use Rattle.clip.specs.declared.slices.Coordinate.{Coordinate}
+use Rattle.clip.specs.declared.slices.Coordinate.TheVariants.{X, Y, Z}
+use Rattle.clip.specs.Cut.{nought, x_of, y_of, z_of}
+
+-- which of a vertex's numbers is read
+abbrev pub read_of : Coordinate → Corner → Float
+read_of X = x_of
+read_of Y = y_of
+read_of Z = z_of
 
 -- numbers put together two by two, from the first on; none give 0
 unfoldable pub together : (Float → Float → Float) → List Float → Float
@@ -18,10 +26,7 @@ least_of vs = together lesser_of vs
 abbrev pub greatest_of : List Float → Float
 greatest_of vs = together greater_of vs
 
--- a closure answers as a function of vertices, or of two numbers
-abbrev pub Reads : (Corner → Float → Type 0) → (Corner → Float) → Type 0
-Reads answers g = (v : Corner) (r : Float) → answers v r → r ≡ g v
-
+-- a closure answers as a function of two numbers
 abbrev pub Chooses : (Float → Float → Float → Type 0) → (Float → Float → Float) → Type 0
 Chooses answers h = (a b r : Float) → answers a b r → r ≡ h a b
 

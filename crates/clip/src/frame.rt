@@ -1,10 +1,9 @@
 // What is fixed for a grid, and the first test of a triangle against it.
-ghost use Rattle.std.specs.Prelude.{◌≡◌, map, Float};
-ghost use Rattle.grid.specs.declared.Corner.{Corner};
-ghost use Rattle.clip.specs.Slices.{Reads};
+ghost use Rattle.std.specs.Prelude.{◌≡◌, map};
+ghost use Rattle.clip.specs.Slices.{read_of};
 ghost use Rattle.clip.specs.Work.{frame_of, reaches_of, meets_of};
 
-use super::slices::{greatest_of, least_of};
+use super::slices::{Coordinate, greatest_of, least_of};
 use grid::{Corner, Grid};
 
 // What a triangle's work needs of a grid.
@@ -36,11 +35,10 @@ pub fn frame_of(g: Grid, width: u32, height: u32) -> Frame
 }
 
 // Do the numbers that `of` reads from the vertices reach into low..high?
-fn reaches<K: Fn(Corner) -> f32>(vs: &[Corner], of: K, low: f32, high: f32) -> bool
-    requires { K.IsAlwaysCallable of }
-    ensures { (g : Corner → Float) → Reads (K.post of) g → result ≡ reaches_of low high (map g vs.now) }
+fn reaches(vs: &[Corner], of: Coordinate, low: f32, high: f32) -> bool
+    ensures { result ≡ reaches_of low high (map (read_of of) vs.now) }
 {
-    least_of(vs, &of) <= high && greatest_of(vs, &of) >= low
+    least_of(vs, of) <= high && greatest_of(vs, of) >= low
 }
 
 // Does the box of the vertices overlap the grid's? Touching counts.
@@ -49,7 +47,7 @@ pub fn meets(f: Frame, vs: &[Corner]) -> bool
 {
     let least = f.grid.min;
     let greatest = f.grid.max;
-    reaches(vs, |v| v.x, least.x, greatest.x)
-        && reaches(vs, |v| v.y, least.y, greatest.y)
-        && reaches(vs, |v| v.z, least.z, greatest.z)
+    reaches(vs, Coordinate::X, least.x, greatest.x)
+        && reaches(vs, Coordinate::Y, least.y, greatest.y)
+        && reaches(vs, Coordinate::Z, least.z, greatest.z)
 }

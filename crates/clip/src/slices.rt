@@ -1,38 +1,60 @@
 // The rows and columns that a polygon meets: the least and the greatest of its coordinates, their cells, and where a cell ends.
 ghost use Rattle.std.specs.Prelude.{◌≡◌, ◌≤◌, map, Float};
 ghost use Rattle.grid.specs.declared.Corner.{Corner};
-ghost use Rattle.clip.specs.Slices.{together, least_of, greatest_of, cell_of, edge_of, held_to, held_first, held_last, Reads, Chooses};
+ghost use Rattle.clip.specs.Slices.{read_of, together, least_of, greatest_of, cell_of, edge_of, held_to, held_first, held_last, Chooses};
 
 use grid::Corner;
 
-// The numbers that `of` reads from the vertices, put together two by two by `choice`. None give 0.
-fn together<K: Fn(Corner) -> f32, C: Fn(f32, f32) -> f32>(vs: &[Corner], of: K, choice: C) -> f32
-    requires of_callable { K.IsAlwaysCallable of }
-    requires choice_callable { C.IsAlwaysCallable choice }
-    ensures { (g : Corner → Float) (h : Float → Float → Float) → Reads (K.post of) g → Chooses (C.post choice) h → result ≡ together h (map g vs.now) }
+// Which of a vertex's numbers is read.
+#[derive(Clone, Copy)]
+pub enum Coordinate {
+    X,
+    Y,
+    Z,
+}
+
+impl Coordinate {
+    #[inline(always)]
+    pub fn of(self, v: &Corner) -> f32
+        ensures { result ≡ read_of self v.now }
+    {
+        match self {
+            Coordinate::X => v.x,
+            Coordinate::Y => v.y,
+            Coordinate::Z => v.z,
+        }
+    }
+}
+
+// The numbers that `of` reads from the vertices, put together two by two by `choice`. None give 0. A `for`, since a fold's contract gives its
+// states one after another, and what the loop keeps is plainer.
+#[inline(always)]
+fn together<C: Fn(f32, f32) -> f32>(vs: &[Corner], of: Coordinate, choice: C) -> f32
+    requires { C.IsAlwaysCallable choice }
+    ensures { (h : Float → Float → Float) → Chooses (C.post choice) h → result ≡ together h (map (read_of of) vs.now) }
 {
     let Some((first, rest)) = vs.split_first() else {
         return 0.0;
     };
-    let mut y = of(*first);
+    let mut y = of.of(first);
     for v in rest {
-        y = choice(y, of(*v));
+        y = choice(y, of.of(v));
     }
     y
 }
 
 // The least of the numbers that `of` reads from the vertices.
-pub fn least_of<K: Fn(Corner) -> f32>(vs: &[Corner], of: K) -> f32
-    requires { K.IsAlwaysCallable of }
-    ensures { (g : Corner → Float) → Reads (K.post of) g → result ≡ least_of (map g vs.now) }
+#[inline(always)]
+pub fn least_of(vs: &[Corner], of: Coordinate) -> f32
+    ensures { result ≡ least_of (map (read_of of) vs.now) }
 {
     together(vs, of, |a, b| ops::lesser(a, b))
 }
 
 // The greatest of them.
-pub fn greatest_of<K: Fn(Corner) -> f32>(vs: &[Corner], of: K) -> f32
-    requires { K.IsAlwaysCallable of }
-    ensures { (g : Corner → Float) → Reads (K.post of) g → result ≡ greatest_of (map g vs.now) }
+#[inline(always)]
+pub fn greatest_of(vs: &[Corner], of: Coordinate) -> f32
+    ensures { result ≡ greatest_of (map (read_of of) vs.now) }
 {
     together(vs, of, |a, b| ops::greater(a, b))
 }

@@ -16,7 +16,7 @@ use crate::rows::rows;
 use crate::turns::{Halt, Job, first_of};
 use clip::frame::{Frame, frame_of, meets};
 use clip::poly::Polygon;
-use clip::slices::{cell_at, greatest_of, held_last, least_of};
+use clip::slices::{Coordinate, cell_at, greatest_of, held_last, least_of};
 use grid::{Corner, Grid, Size};
 
 fn triangle(
@@ -38,8 +38,8 @@ fn triangle(
     if !meets(f, &vs) {
         return Ok(0);
     }
-    let z0 = cell_at(f.grid.min.z, f.inverse, least_of(&vs, |v| v.z));
-    let z1 = cell_at(f.grid.min.z, f.inverse, greatest_of(&vs, |v| v.z));
+    let z0 = cell_at(f.grid.min.z, f.inverse, least_of(&vs, Coordinate::Z));
+    let z1 = cell_at(f.grid.min.z, f.inverse, greatest_of(&vs, Coordinate::Z));
     let first = first_of(z0, f.height - 1);
     let last = held_last(z1, f.height - 1) + 1;
     rows(heads, slots, job, &Polygon::of_three(a, b, c), first, last)

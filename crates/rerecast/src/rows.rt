@@ -19,7 +19,7 @@ use clip::cut::{Axis, EighthVertex};
 use clip::heights::{Heights, TooHigh, snap_of};
 use clip::poly::Polygon;
 use clip::rest::Rest;
-use clip::slices::{cell_at, edge, greatest_of, held_last, least_of};
+use clip::slices::{Coordinate, cell_at, edge, greatest_of, held_last, least_of};
 use field::Span;
 use grid::Corner;
 
@@ -162,8 +162,8 @@ fn row(
 {
     let f = job.frame;
     let vs = part.vertices();
-    let x0 = cell_at(f.grid.min.x, f.inverse, least_of(vs, |v| v.x));
-    let x1 = cell_at(f.grid.min.x, f.inverse, greatest_of(vs, |v| v.x));
+    let x0 = cell_at(f.grid.min.x, f.inverse, least_of(vs, Coordinate::X));
+    let x1 = cell_at(f.grid.min.x, f.inverse, greatest_of(vs, Coordinate::X));
     if misses(x0, x1, f.width) {
         return Ok(made);
     }

@@ -1,5 +1,4 @@
 -- `rasterize::triangle` meets its contract.
-use borrow.Author.Rules.{rules}
 use mathlib.Core.Path.{◌≡◌, sym, ◌∙◌}
 use mathlib.Core.Bool.{true}
 use mathlib.Core.List.{List, [], ◌∷◌, map}
@@ -52,8 +51,8 @@ returns-clause-carries c others f H =
     let vs : List Corner = a.a ∷ a.b ∷ a.c ∷ [] in
     let z₀ = c.cell_at-z0 in
     let z₁ = c.cell_at-z1 in
-    let least : c.least_of.result ≡ least_of (map z_of vs) = c.least_of.ensures z_of (search rules) in
-    let greatest : c.greatest_of.result ≡ greatest_of (map z_of vs) = c.greatest_of.ensures z_of (search rules) in
+    let least : c.least_of.result ≡ least_of (map z_of vs) = c.least_of.ensures in
+    let greatest : c.greatest_of.result ≡ greatest_of (map z_of vs) = c.greatest_of.ensures in
     let each = turns a.job.frame vs (record { sfits = z₀.type_inv }) (record { sfits = z₁.type_inv }) least greatest z₀.ensures z₁.ensures (sym c.meets.ensures ∙ c.if-not-meets.false)
     c.first_of-first.result c.held_last-last.result c.first_of-first.ensures c.held_last-last.ensures in
     remains-of a.job.frame.width a.job.threshold a.job.area 0 f each (rw c.of_three.ensures at (c.rows.ensures.carries others f H))

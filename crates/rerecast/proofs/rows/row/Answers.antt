@@ -1,5 +1,4 @@
 -- `rows::row` meets its contract.
-use borrow.Author.Rules.{rules}
 use mathlib.Core.Path.{◌≡◌, sym, ap, ◌∙◌}
 use mathlib.Core.Bool.{true, false, ◌||◌}
 use mathlib.Core.List.{List, [], map}
@@ -48,8 +47,8 @@ returns-then-misses-clause-carries c others f H =
     let a = c.args in
     let x₀ = c.cell_at-x0 in
     let x₁ = c.cell_at-x1 in
-    let least : c.least_of.result ≡ least_of (map x_of (held a.part.now)) = c.least_of.ensures x_of (search rules) ∙ ap (λ (vs : List Corner). least_of (map x_of vs)) c.vertices-vs.ensures.value in
-    let greatest : c.greatest_of.result ≡ greatest_of (map x_of (held a.part.now)) = c.greatest_of.ensures x_of (search rules) ∙ ap (λ (vs : List Corner). greatest_of (map x_of vs)) c.vertices-vs.ensures.value in
+    let least : c.least_of.result ≡ least_of (map x_of (held a.part.now)) = c.least_of.ensures ∙ ap (λ (vs : List Corner). least_of (map x_of vs)) c.vertices-vs.ensures.value in
+    let greatest : c.greatest_of.result ≡ greatest_of (map x_of (held a.part.now)) = c.greatest_of.ensures ∙ ap (λ (vs : List Corner). greatest_of (map x_of vs)) c.vertices-vs.ensures.value in
     let none = missed a.job.frame a.z (held a.part.now) (record { sfits = x₀.type_inv }) (record { sfits = x₁.type_inv }) least greatest x₀.ensures x₁.ensures (sym c.misses.ensures ∙ c.if-misses.true) in
     remains-is a.job.frame.width a.job.threshold a.job.area a.made none H
 
@@ -68,8 +67,8 @@ returns-clause-carries c others f H =
     let a = c.args in
     let x₀ = c.cell_at-x0 in
     let x₁ = c.cell_at-x1 in
-    let least : c.least_of.result ≡ least_of (map x_of (held a.part.now)) = c.least_of.ensures x_of (search rules) ∙ ap (λ (vs : List Corner). least_of (map x_of vs)) c.vertices-vs.ensures.value in
-    let greatest : c.greatest_of.result ≡ greatest_of (map x_of (held a.part.now)) = c.greatest_of.ensures x_of (search rules) ∙ ap (λ (vs : List Corner). greatest_of (map x_of vs)) c.vertices-vs.ensures.value in
+    let least : c.least_of.result ≡ least_of (map x_of (held a.part.now)) = c.least_of.ensures ∙ ap (λ (vs : List Corner). least_of (map x_of vs)) c.vertices-vs.ensures.value in
+    let greatest : c.greatest_of.result ≡ greatest_of (map x_of (held a.part.now)) = c.greatest_of.ensures ∙ ap (λ (vs : List Corner). greatest_of (map x_of vs)) c.vertices-vs.ensures.value in
     let each = turns a.job.frame a.z (held a.part.now) (record { sfits = x₀.type_inv }) (record { sfits = x₁.type_inv }) least greatest x₀.ensures x₁.ensures
     (sym c.misses.ensures ∙ c.if-misses.false) c.first_of-first.result c.held_last-last.result c.first_of-first.ensures c.held_last-last.ensures in
     remains-of a.job.frame.width a.job.threshold a.job.area a.made f each (c.columns.ensures.carries others f H)
