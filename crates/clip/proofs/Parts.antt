@@ -10,15 +10,16 @@ use mathlib.Core.Bool.{cond}
 use lib.Ieee.{Float}
 use lib.ListN.{length, set, take, drop, get_or}
 use lib.Seq.{sets, sets-eq, take-suc, take-append_seam, length-take-le, length-sets}
-use Rattle.std.proofs.Common.{length-take}
 use Rattle.grid.specs.declared.Corner.{Corner}
 use Rattle.clip.specs.declared.cell.Piece.{Piece}
 use Rattle.clip.specs.declared.poly.Polygon.{Polygon}
+use Rattle.clip.specs.declared.rest.Rest.{Rest}
 use Rattle.clip.specs.declared.cut.Axis.{Axis}
 use Rattle.clip.specs.Cut.{y_of, fitting, first_of, second_of}
 use Rattle.clip.proofs.Rounds.{Fits}
 use Rattle.clip.specs.Cell.{piece_holding}
 use Rattle.clip.specs.Poly.{held, polygon_holding, polygon_of}
+use Rattle.clip.specs.Rest.{left, rest_of}
 use Rattle.clip.specs.Slices.{together}
 use Rattle.ops.specs.Order.{lesser_of, greater_of}
 
@@ -36,17 +37,9 @@ polygon-put p s vs at v e h =
 pub held-made : (p : Polygon) (vs : List Corner) → length vs ≤ length p.at → held (polygon_of p vs) ≡ vs
 held-made p vs h = rw (sets-eq vs p.at 0 (omega (arith, h))) (take-append_seam vs (drop (0 + length vs) p.at))
 
--- the same where as many are read back
-pub held_by : (p : Polygon) (vs : List Corner) → length (held (polygon_of p vs)) ≡ length vs → held (polygon_of p vs) ≡ vs
-held_by p vs e = held-made p vs (omega (arith, e, length-take (length vs) (sets p.at 0 vs), length-sets p.at 0 vs))
-
--- what `vertices` shows of such a part
-pub seen_is : (p : Polygon) (vs : List Corner) {q : Polygon} {seen : List Corner} → q ≡ polygon_of p vs → length vs ≤ 14 → seen ≡ held q → (q.n ≤ 14 → length seen ≡ q.n) → seen ≡ vs
-seen_is p vs {q} {seen} e few value whole =
-    let n : q.n ≡ length vs = ap (λ (r : Polygon). r.n) e in
-    let many : length seen ≡ q.n = whole (omega (arith, n, few)) in
-    let here : seen ≡ held (polygon_of p vs) = value ∙ ap held e in
-    here ∙ held_by p vs (omega (arith, ap length here, many, n))
+-- the same of what remains of such a part
+pub rest-made : (r : Rest) (vs : List Corner) {s : Rest} → s ≡ rest_of r vs → length s.one.at ≡ 14 → length vs ≤ 14 → left s ≡ vs
+rest-made r vs e room few = ap left e ∙ held-made r.one vs (omega (arith, few, room, ap (λ (q : Rest). length q.one.at) e, length-sets r.one.at 0 vs))
 
 -- of a cut that is no error: both parts, and what is read back of one that is written down
 module _ {axis : Axis} {offset : Float} {vs : List Corner} (fits : Fits axis offset vs) where

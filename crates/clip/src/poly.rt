@@ -1,5 +1,5 @@
 // Polygons by value, and their cut.
-ghost use Rattle.std.specs.Prelude.{◌≡◌, [], ◌∷◌, ◌≤◌, length};
+ghost use Rattle.std.specs.Prelude.{◌≡◌, [], ◌≤◌};
 ghost use Rattle.clip.specs.Cut.{eighth};
 ghost use Rattle.clip.specs.Poly.{vertices_of, poly_of, poly_cut, Answers, held, polygon_of};
 
@@ -43,19 +43,8 @@ impl Polygon {
         }
     }
 
-    pub fn of_three(a: Corner, b: Corner, c: Corner) -> Self
-        ensures { held result ≡ a ∷ b ∷ c ∷ [] }
-    {
-        let mut at = [ORIGIN; 14];
-        at[0] = a;
-        at[1] = b;
-        at[2] = c;
-        Polygon { at, n: 3 }
-    }
-
     pub fn vertices(&self) -> &[Corner]
-        ensures value { result.now ≡ held self.now }
-        ensures whole { self.now.n ≤ 14 → length result.now ≡ self.now.n }
+        ensures { result.now ≡ held self.now }
     {
         &self.at[..self.n.min(14)]
     }

@@ -1,12 +1,13 @@
 // What remains of a polygon while parts are cut off it, one after the other.
-ghost use Rattle.std.specs.Prelude.{◌≡◌, OnOk, List};
+ghost use Rattle.std.specs.Prelude.{◌≡◌, ◌≤◌, [], ◌∷◌, OnOk, List, length};
 ghost use Rattle.grid.specs.declared.Corner.{Corner};
 ghost use Rattle.clip.specs.Cut.{first_of, second_of, verdict_of, slice_cut};
 ghost use Rattle.clip.specs.Poly.{held};
-ghost use Rattle.clip.specs.Rest.{left};
+ghost use Rattle.clip.specs.Rest.{left, rest_of};
 
 use super::cut::{Axis, EighthVertex, Part, divide};
 use super::poly::Polygon;
+use grid::Corner;
 
 // It stands in one of two polygons, and a cut writes what remains behind it into the other.
 #[derive(Clone, Copy)]
@@ -17,13 +18,35 @@ pub struct Rest {
 }
 
 impl Rest {
-    pub fn of(p: &Polygon) -> Self
-        ensures { left result ≡ held p.now }
+    pub fn empty() -> Self
+        ensures { left result ≡ [] }
     {
         Rest {
-            one: *p,
+            one: Polygon::empty(),
             other: Polygon::empty(),
             swapped: false,
+        }
+    }
+
+    // Begins anew with a triangle, of which nothing is cut off yet.
+    pub fn begin(&mut self, a: Corner, b: Corner, c: Corner)
+        ensures { left self.new ≡ a ∷ b ∷ c ∷ [] }
+    {
+        self.one.at[0] = a;
+        self.one.at[1] = b;
+        self.one.at[2] = c;
+        self.end(3);
+    }
+
+    // Of a part that was cut off, `whole` says that they are what it was given.
+    pub fn vertices(&self) -> &[Corner]
+        ensures value { result.now ≡ left self.now }
+        ensures whole { (r : Rest) (vs : List Corner) → length vs ≤ 14 → self.now ≡ rest_of r vs → result.now ≡ vs }
+    {
+        if self.swapped {
+            self.other.vertices()
+        } else {
+            self.one.vertices()
         }
     }
 
@@ -47,4 +70,24 @@ impl Rest {
             divide(self.one.vertices(), axis, offset, first, &mut self.other)
         }
     }
+}
+
+// A part that is cut off can be cut in its turn: what remains of it is then all of it.
+impl Part for Rest {
+    ghost use Rattle.clip.specs.Rest.{rest_holding, rest_of, rest_none};
+
+    ghost holding = { rest_holding };
+
+    ghost made = { rest_of };
+
+    fn put(&mut self, at: usize, v: Corner) {
+        self.one.put(at, v);
+    }
+
+    fn end(&mut self, n: usize) {
+        self.one.end(n);
+        self.swapped = false;
+    }
+
+    ghost holding_none = { rest_none };
 }

@@ -12,10 +12,10 @@ ghost use Rattle.rerecast.specs.Rasterize.{Carries, Worked, MeshWorked, Sides, R
 use crate::Refusal;
 use crate::lent::{Columns, Mesh, Slots};
 use crate::mesh_admission::admit_mesh;
-use crate::rows::rows;
+use crate::rows::{Rests, rows};
 use crate::turns::{Halt, Job, first_of};
 use clip::frame::{Frame, frame_of, meets};
-use clip::poly::Polygon;
+use clip::rest::Rest;
 use clip::slices::{Coordinate, cell_at, greatest_of, held_last, least_of};
 use grid::{Corner, Grid, Size};
 
@@ -23,6 +23,7 @@ fn triangle(
     heads: &mut [u32],
     slots: &mut Slots<'_>,
     job: Job,
+    rests: &mut Rests,
     a: Corner,
     b: Corner,
     c: Corner,
@@ -42,7 +43,8 @@ fn triangle(
     let z1 = cell_at(f.grid.min.z, f.inverse, greatest_of(&vs, Coordinate::Z));
     let first = first_of(z0, f.height - 1);
     let last = held_last(z1, f.height - 1) + 1;
-    rows(heads, slots, job, &Polygon::of_three(a, b, c), first, last)
+    rests.triangle.begin(a, b, c);
+    rows(heads, slots, job, rests, first, last)
 }
 
 // The corner that stands at a place of the indices.
@@ -65,6 +67,7 @@ fn triangle_at(
     frame: Frame,
     mesh: &Mesh<'_>,
     threshold: u16,
+    rests: &mut Rests,
     t: usize,
 ) -> Result<u32, Halt>
     requires ready { Ready frame heads.old × Shaped (mesh_of mesh.now) × Named (mesh_of mesh.now) × (t < length mesh.now.areas.now) }
@@ -82,7 +85,7 @@ fn triangle_at(
         area: mesh.areas[t],
         threshold,
     };
-    triangle(heads, slots, job, a, b, c)
+    triangle(heads, slots, job, rests, a, b, c)
 }
 
 // The triangles of a mesh, one after another, up to the first that stops.
@@ -99,8 +102,12 @@ fn triangles(
         → MeshWorked (rasterized frame (mesh_of mesh.now) threshold f) result (heads.new ++ others) (slots_of slots.new) }
     ensures same_slots { SameSlots slots.old slots.new }
 {
+    let mut rests = Rests {
+        triangle: Rest::empty(),
+        row: Rest::empty(),
+    };
     for t in 0..mesh.areas.len() {
-        if let Err(halt) = triangle_at(heads, slots, frame, mesh, threshold, t) {
+        if let Err(halt) = triangle_at(heads, slots, frame, mesh, threshold, &mut rests, t) {
             return Err(Refusal::Stopped(halt.why, t as u32, halt.made));
         }
     }

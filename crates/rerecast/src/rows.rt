@@ -1,7 +1,6 @@
 // The rows of a triangle and the cells of a row: each is cut from what remains, and a cell's part becomes a span of the field.
 ghost use Rattle.std.specs.Prelude.{◌≡◌, List, [], ◌∷◌, ◌++◌, map, ℕ, ◌/◌, ◌<◌, ◌≤◌, length};
 ghost use Rattle.clip.specs.Cut.{y_of, slice_cut};
-ghost use Rattle.clip.specs.Poly.{held};
 ghost use Rattle.clip.specs.Rest.{left};
 ghost use Rattle.clip.specs.Slices.{least_of, greatest_of};
 ghost use Rattle.clip.specs.Work.{insert, edge_at, cell_events, row_events};
@@ -17,11 +16,17 @@ use crate::turns::{Halt, Job, first_of, gives_nothing, misses, number};
 use clip::cell::Piece;
 use clip::cut::{Axis, EighthVertex};
 use clip::heights::{Heights, TooHigh, snap_of};
-use clip::poly::Polygon;
 use clip::rest::Rest;
 use clip::slices::{Coordinate, cell_at, edge, greatest_of, held_last, least_of};
 use field::Span;
 use grid::Corner;
+
+// What remains of a triangle while rows are cut off it, and of a row while cells are. Both are made once for a mesh, and every triangle begins them anew.
+#[derive(Clone, Copy)]
+pub(crate) struct Rests {
+    pub triangle: Rest,
+    pub row: Rest,
+}
 
 // One insertion. Answers, as all of these do, how many insertions of the triangle are made by then.
 fn put(
@@ -124,23 +129,22 @@ fn columns(
     heads: &mut [u32],
     slots: &mut Slots<'_>,
     job: Job,
-    row: &Polygon,
+    row: &mut Rest,
     z: u32,
     first: u32,
     last: u32,
     made: u32,
 ) -> Result<u32, Halt>
-    requires ready { Ready job.frame heads.old × (z < job.frame.height) × (length (held row.now) ≤ 7) × (last ≤ job.frame.width) × (made ≤ 16781312) }
+    requires ready { Ready job.frame heads.old × (z < job.frame.height) × (length (left row.old) ≤ 7) × (last ≤ job.frame.width) × (made ≤ 16781312) }
     requires held { (others : List ℕ) × Held (heads.old ++ others) (slots_of slots.old) }
     ensures carries { (others : List ℕ) (f : Field) → Holds (heads.old ++ others) (slots_of slots.old) f
-        → Carries job made f (turns_to Axis.X (edge_at job.frame Axis.X) (cell_events job.frame z) last first (held row.now)) result
+        → Carries job made f (turns_to Axis.X (edge_at job.frame Axis.X) (cell_events job.frame z) last first (left row.old)) result
         (heads.new ++ others) (slots_of slots.new) }
     ensures same_slots { SameSlots slots.old slots.new }
 {
-    let mut rest = Rest::of(row);
     let mut count = made;
     for k in first..last + 1 {
-        count = column(heads, slots, job, &mut rest, k, z, count)?;
+        count = column(heads, slots, job, row, k, z, count)?;
     }
     Ok(count)
 }
@@ -150,14 +154,14 @@ fn row(
     heads: &mut [u32],
     slots: &mut Slots<'_>,
     job: Job,
-    part: &Polygon,
+    part: &mut Rest,
     z: u32,
     made: u32,
 ) -> Result<u32, Halt>
-    requires ready { Ready job.frame heads.old × (z < job.frame.height) × (length (held part.now) ≤ 7) × (made ≤ 16781312) }
+    requires ready { Ready job.frame heads.old × (z < job.frame.height) × (length (left part.old) ≤ 7) × (made ≤ 16781312) }
     requires held { (others : List ℕ) × Held (heads.old ++ others) (slots_of slots.old) }
     ensures carries { (others : List ℕ) (f : Field) → Holds (heads.old ++ others) (slots_of slots.old) f
-        → Carries job made f (row_events job.frame z (held part.now)) result (heads.new ++ others) (slots_of slots.new) }
+        → Carries job made f (row_events job.frame z (left part.old)) result (heads.new ++ others) (slots_of slots.new) }
     ensures same_slots { SameSlots slots.old slots.new }
 {
     let f = job.frame;
@@ -172,36 +176,35 @@ fn row(
     columns(heads, slots, job, part, z, first, last, made)
 }
 
-// Row k: what is cut off the triangle there, into `part`.
+// Row k: what is cut off the triangle there.
 fn row_at(
     heads: &mut [u32],
     slots: &mut Slots<'_>,
     job: Job,
-    rest: &mut Rest,
-    part: &mut Polygon,
+    rests: &mut Rests,
     k: u32,
     made: u32,
 ) -> Result<u32, Halt>
     requires ready { Ready job.frame heads.old × (k ≤ job.frame.height) × (made ≤ 16781312) }
     requires held { (others : List ℕ) × Held (heads.old ++ others) (slots_of slots.old) }
     ensures carries { (others : List ℕ) (f : Field) → Holds (heads.old ++ others) (slots_of slots.old) f
-        → Carries job made f (turn_events (slice_cut Axis.Z (edge_at job.frame Axis.Z (numbered k)) (left rest.old)) (row_events job.frame) k) result
+        → Carries job made f (turn_events (slice_cut Axis.Z (edge_at job.frame Axis.Z (numbered k)) (left rests.old.triangle)) (row_events job.frame) k) result
         (heads.new ++ others) (slots_of slots.new) }
-    ensures cuts_off { CutsOff Axis.Z (edge_at job.frame Axis.Z (numbered k)) (left rest.old) (left rest.new) result }
+    ensures cuts_off { CutsOff Axis.Z (edge_at job.frame Axis.Z (numbered k)) (left rests.old.triangle) (left rests.new.triangle) result }
     ensures same_slots { SameSlots slots.old slots.new }
 {
     let grid = job.frame.grid;
     let end = edge(grid.min.z, grid.cell_size, number(k));
-    if let Err(EighthVertex) = rest.cut(Axis::Z, end, part) {
+    if let Err(EighthVertex) = rests.triangle.cut(Axis::Z, end, &mut rests.row) {
         return Err(Halt {
             why: Stop::EighthVertex,
             made,
         });
     }
-    if gives_nothing(part.vertices().len(), k) {
+    if gives_nothing(rests.row.vertices().len(), k) {
         return Ok(made);
     }
-    row(heads, slots, job, part, k - 1, made)
+    row(heads, slots, job, &mut rests.row, k - 1, made)
 }
 
 // Rows first..last of a triangle.
@@ -209,22 +212,20 @@ pub(crate) fn rows(
     heads: &mut [u32],
     slots: &mut Slots<'_>,
     job: Job,
-    triangle: &Polygon,
+    rests: &mut Rests,
     first: u32,
     last: u32,
 ) -> Result<u32, Halt>
-    requires ready { Ready job.frame heads.old × (length (held triangle.now) ≤ 7) × (last ≤ job.frame.height) }
+    requires ready { Ready job.frame heads.old × (length (left rests.old.triangle) ≤ 7) × (last ≤ job.frame.height) }
     requires held { (others : List ℕ) × Held (heads.old ++ others) (slots_of slots.old) }
     ensures carries { (others : List ℕ) (f : Field) → Holds (heads.old ++ others) (slots_of slots.old) f
-        → Carries job 0 f (turns_to Axis.Z (edge_at job.frame Axis.Z) (row_events job.frame) last first (held triangle.now)) result
+        → Carries job 0 f (turns_to Axis.Z (edge_at job.frame Axis.Z) (row_events job.frame) last first (left rests.old.triangle)) result
         (heads.new ++ others) (slots_of slots.new) }
     ensures same_slots { SameSlots slots.old slots.new }
 {
-    let mut rest = Rest::of(triangle);
-    let mut part = Polygon::empty();
     let mut count: u32 = 0;
     for k in first..last + 1 {
-        count = row_at(heads, slots, job, &mut rest, &mut part, k, count)?;
+        count = row_at(heads, slots, job, rests, k, count)?;
     }
     Ok(count)
 }

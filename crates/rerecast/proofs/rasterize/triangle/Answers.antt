@@ -43,7 +43,7 @@ overflow_add-last c =
 
 pub rows-requires-clause-ready : goal.rows-requires-clause-ready
 rows-requires-clause-ready c =
-    (c.requires.ready, rw c.of_three.ensures (omega arith), last-inside c.args.job.frame.height _ c.requires.ready.sides.some-high c.held_last-last.ensures)
+    (c.requires.ready, rw c.begin.ensures (omega arith), last-inside c.args.job.frame.height _ c.requires.ready.sides.some-high c.held_last-last.ensures)
 
 pub returns-clause-carries : goal.returns-clause-carries
 returns-clause-carries c others f H =
@@ -55,4 +55,4 @@ returns-clause-carries c others f H =
     let greatest : c.greatest_of.result ≡ greatest_of (map z_of vs) = c.greatest_of.ensures in
     let each = turns a.job.frame vs (record { sfits = z₀.type_inv }) (record { sfits = z₁.type_inv }) least greatest z₀.ensures z₁.ensures (sym c.meets.ensures ∙ c.if-not-meets.false)
     c.first_of-first.result c.held_last-last.result c.first_of-first.ensures c.held_last-last.ensures in
-    remains-of a.job.frame.width a.job.threshold a.job.area 0 f each (rw c.of_three.ensures at (c.rows.ensures.carries others f H))
+    remains-of a.job.frame.width a.job.threshold a.job.area 0 f each (rw c.begin.ensures at (c.rows.ensures.carries others f H))

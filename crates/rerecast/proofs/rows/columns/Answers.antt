@@ -31,7 +31,7 @@ returns-in_err-count-clause-carries c others f H =
     let a = c.args in
     let g = a.job.frame in
     let now = v.invariant.2 others f H in
-    rw (p.1, p.2) (turn_stopped a.job _ _ (turns-turn X (edge_at g X) (cell_events g a.z) a.last v.k (left v.rest) v.invariant.0 (omega (arith, c.loop-k-test.true)))
+    rw (p.1, p.2) (turn_stopped a.job _ _ (turns-turn X (edge_at g X) (cell_events g a.z) a.last v.k (left v.row) v.invariant.0 (omega (arith, c.loop-k-test.true)))
     v.count now _ (c.in_err-count.ensures.carries others now.field now.holds))
 
 pub loop-k-preserved : goal.loop-k-preserved
@@ -42,7 +42,7 @@ loop-k-preserved c =
     let told = c.in_ok-count.ensures.carries in
     let held = c.requires.held in
     let now = v.invariant.2 held.0 held.1.0 held.1.1 in
-    let few = turn-length 1 (omega arith) (cell_events g a.z) (λ x part. cell-one g a.z x part) (slice_cut X (edge_at g X (numbered v.k)) (left v.rest)) v.k in
+    let few = turn-length 1 (omega arith) (cell_events g a.z) (λ x part. cell-one g a.z x part) (slice_cut X (edge_at g X (numbered v.k)) (left v.row)) v.k in
     let most = step-most a.job v.count now.field _ (Ok _) (told held.0 now.field now.holds) in
     let more = c.in_ok-count.ensures.cuts_off in (
       more.1,
@@ -51,7 +51,7 @@ loop-k-preserved c =
           let at = v.invariant.2 others f H in
           remains-as g.width a.job.threshold a.job.area _
           (ap (λ (vs : List Corner). turns_to X (edge_at g X) (cell_events g a.z) a.last (v.k + 1) vs) (sym more.0))
-          (turn-went a.job _ _ (turns-turn X (edge_at g X) (cell_events g a.z) a.last v.k (left v.rest) v.invariant.0 (omega (arith, c.loop-k-test.true)))
+          (turn-went a.job _ _ (turns-turn X (edge_at g X) (cell_events g a.z) a.last v.k (left v.row) v.invariant.0 (omega (arith, c.loop-k-test.true)))
           v.count at _ (told others at.field at.holds)),
       search rules,
     )
@@ -62,4 +62,4 @@ returns-clause-carries c others f H =
     let a = c.args in
     let g = a.job.frame in
     remains-as g.width a.job.threshold a.job.area v.count
-    (turns-end X (edge_at g X) (cell_events g a.z) a.last v.k (left v.rest) (omega (arith, c.loop-k-test.false))) (v.invariant.2 others f H)
+    (turns-end X (edge_at g X) (cell_events g a.z) a.last v.k (left v.row) (omega (arith, c.loop-k-test.false))) (v.invariant.2 others f H)

@@ -13,7 +13,7 @@ use Rattle.grid.specs.declared.Corner.{Corner}
 use Rattle.clip.specs.declared.cut.Axis.TheVariants.{X}
 use Rattle.clip.specs.declared.frame.Frame.{Frame}
 use Rattle.clip.specs.Cut.{x_of}
-use Rattle.clip.specs.Poly.{held}
+use Rattle.clip.specs.Rest.{left}
 use Rattle.clip.specs.Slices.{least_of, greatest_of, cell_of, held_first, held_last}
 use Rattle.clip.specs.Work.{first_cell, last_cell, edge_at, cell_events, row_events}
 use Rattle.field.specs.Working.{numbered, turns_to}
@@ -47,9 +47,9 @@ returns-then-misses-clause-carries c others f H =
     let a = c.args in
     let x₀ = c.cell_at-x0 in
     let x₁ = c.cell_at-x1 in
-    let least : c.least_of.result ≡ least_of (map x_of (held a.part.now)) = c.least_of.ensures ∙ ap (λ (vs : List Corner). least_of (map x_of vs)) c.vertices-vs.ensures.value in
-    let greatest : c.greatest_of.result ≡ greatest_of (map x_of (held a.part.now)) = c.greatest_of.ensures ∙ ap (λ (vs : List Corner). greatest_of (map x_of vs)) c.vertices-vs.ensures.value in
-    let none = missed a.job.frame a.z (held a.part.now) (record { sfits = x₀.type_inv }) (record { sfits = x₁.type_inv }) least greatest x₀.ensures x₁.ensures (sym c.misses.ensures ∙ c.if-misses.true) in
+    let least : c.least_of.result ≡ least_of (map x_of (left a.part.now)) = c.least_of.ensures ∙ ap (λ (vs : List Corner). least_of (map x_of vs)) c.vertices-vs.ensures.value in
+    let greatest : c.greatest_of.result ≡ greatest_of (map x_of (left a.part.now)) = c.greatest_of.ensures ∙ ap (λ (vs : List Corner). greatest_of (map x_of vs)) c.vertices-vs.ensures.value in
+    let none = missed a.job.frame a.z (left a.part.now) (record { sfits = x₀.type_inv }) (record { sfits = x₁.type_inv }) least greatest x₀.ensures x₁.ensures (sym c.misses.ensures ∙ c.if-misses.true) in
     remains-is a.job.frame.width a.job.threshold a.job.area a.made none H
 
 pub overflow_add-last : goal.overflow_add-last
@@ -67,8 +67,8 @@ returns-clause-carries c others f H =
     let a = c.args in
     let x₀ = c.cell_at-x0 in
     let x₁ = c.cell_at-x1 in
-    let least : c.least_of.result ≡ least_of (map x_of (held a.part.now)) = c.least_of.ensures ∙ ap (λ (vs : List Corner). least_of (map x_of vs)) c.vertices-vs.ensures.value in
-    let greatest : c.greatest_of.result ≡ greatest_of (map x_of (held a.part.now)) = c.greatest_of.ensures ∙ ap (λ (vs : List Corner). greatest_of (map x_of vs)) c.vertices-vs.ensures.value in
-    let each = turns a.job.frame a.z (held a.part.now) (record { sfits = x₀.type_inv }) (record { sfits = x₁.type_inv }) least greatest x₀.ensures x₁.ensures
+    let least : c.least_of.result ≡ least_of (map x_of (left a.part.now)) = c.least_of.ensures ∙ ap (λ (vs : List Corner). least_of (map x_of vs)) c.vertices-vs.ensures.value in
+    let greatest : c.greatest_of.result ≡ greatest_of (map x_of (left a.part.now)) = c.greatest_of.ensures ∙ ap (λ (vs : List Corner). greatest_of (map x_of vs)) c.vertices-vs.ensures.value in
+    let each = turns a.job.frame a.z (left a.part.now) (record { sfits = x₀.type_inv }) (record { sfits = x₁.type_inv }) least greatest x₀.ensures x₁.ensures
     (sym c.misses.ensures ∙ c.if-misses.false) c.first_of-first.result c.held_last-last.result c.first_of-first.ensures c.held_last-last.ensures in
     remains-of a.job.frame.width a.job.threshold a.job.area a.made f each (c.columns.ensures.carries others f H)

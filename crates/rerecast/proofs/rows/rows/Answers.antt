@@ -37,7 +37,7 @@ returns-in_err-count-clause-carries c others f H =
     let a = c.args in
     let g = a.job.frame in
     let now = v.invariant.2 others f H in
-    rw (p.1, p.2) (turn_stopped a.job _ _ (turns-turn Z (edge_at g Z) (row_events g) a.last v.k (left v.rest) v.invariant.0 (omega (arith, c.loop-k-test.true)))
+    rw (p.1, p.2) (turn_stopped a.job _ _ (turns-turn Z (edge_at g Z) (row_events g) a.last v.k (left v.rests.triangle) v.invariant.0 (omega (arith, c.loop-k-test.true)))
     v.count now _ (c.in_err-count.ensures.carries others now.field now.holds))
 
 pub loop-k-preserved : goal.loop-k-preserved
@@ -48,7 +48,7 @@ loop-k-preserved c =
     let told = c.in_ok-count.ensures.carries in
     let held = c.requires.held in
     let now = v.invariant.2 held.0 held.1.0 held.1.1 in
-    let few = turn-length 4097 (omega arith) (row_events g) (λ z part. row-most g z part c.requires.ready.0.sides.some-wide c.requires.ready.0.sides.wide) (slice_cut Z (edge_at g Z (numbered v.k)) (left v.rest)) v.k in
+    let few = turn-length 4097 (omega arith) (row_events g) (λ z part. row-most g z part c.requires.ready.0.sides.some-wide c.requires.ready.0.sides.wide) (slice_cut Z (edge_at g Z (numbered v.k)) (left v.rests.triangle)) v.k in
     let most = step-most a.job v.count now.field _ (Ok _) (told held.0 now.field now.holds) in
     let more = c.in_ok-count.ensures.cuts_off in (
       more.1,
@@ -57,7 +57,7 @@ loop-k-preserved c =
           let at = v.invariant.2 others f H in
           remains-as g.width a.job.threshold a.job.area _
           (ap (λ (vs : List Corner). turns_to Z (edge_at g Z) (row_events g) a.last (v.k + 1) vs) (sym more.0))
-          (turn-went a.job _ _ (turns-turn Z (edge_at g Z) (row_events g) a.last v.k (left v.rest) v.invariant.0 (omega (arith, c.loop-k-test.true)))
+          (turn-went a.job _ _ (turns-turn Z (edge_at g Z) (row_events g) a.last v.k (left v.rests.triangle) v.invariant.0 (omega (arith, c.loop-k-test.true)))
           v.count at _ (told others at.field at.holds)),
       search rules,
     )
@@ -68,4 +68,4 @@ returns-clause-carries c others f H =
     let a = c.args in
     let g = a.job.frame in
     remains-as g.width a.job.threshold a.job.area v.count
-    (turns-end Z (edge_at g Z) (row_events g) a.last v.k (left v.rest) (omega (arith, c.loop-k-test.false))) (v.invariant.2 others f H)
+    (turns-end Z (edge_at g Z) (row_events g) a.last v.k (left v.rests.triangle) (omega (arith, c.loop-k-test.false))) (v.invariant.2 others f H)

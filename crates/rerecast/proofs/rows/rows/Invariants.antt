@@ -4,7 +4,6 @@ use mathlib.Core.List.{List, ◌++◌}
 use Prim.Native.Nat.{ℕ, ◌*◌, ◌≤◌}
 use lib.ListN.{length}
 use Rattle.clip.specs.declared.cut.Axis.TheVariants.{Z}
-use Rattle.clip.specs.Poly.{held}
 use Rattle.clip.specs.Rest.{left}
 use Rattle.clip.specs.Work.{edge_at, row_events}
 use Rattle.field.specs.Field.{Field, Holds}
@@ -14,13 +13,13 @@ use Rattle.rerecast.specs.Lent.{slots_of, SameSlots}
 use Rattle.rerecast.proofs.rows.rows.Given as goal
 
 abbrev pub invariant-loop-k : goal.invariant-loop-k
-invariant-loop-k l = (length (left l.rest) ≤ 7)
+invariant-loop-k l = (length (left l.rests.triangle) ≤ 7)
     × (l.count ≤ l.k * 4097)
     × ((others : List ℕ) (f : Field) → Holds (l.initial.heads ++ others) (slots_of l.initial.slots) f
     → Remains l.job.frame.width l.job.threshold l.job.area
-    (carry l.job.frame.width l.job.threshold l.job.area 0 f (turns_to Z (edge_at l.job.frame Z) (row_events l.job.frame) l.last l.first (held l.triangle)))
+    (carry l.job.frame.width l.job.threshold l.job.area 0 f (turns_to Z (edge_at l.job.frame Z) (row_events l.job.frame) l.last l.first (left l.initial.rests.triangle)))
     l.count
-    (turns_to Z (edge_at l.job.frame Z) (row_events l.job.frame) l.last l.k (left l.rest))
+    (turns_to Z (edge_at l.job.frame Z) (row_events l.job.frame) l.last l.k (left l.rests.triangle))
     (l.heads ++ others)
     (slots_of l.slots))
     × SameSlots l.initial.slots l.slots
