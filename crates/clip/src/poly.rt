@@ -12,7 +12,8 @@ const ORIGIN: Corner = Corner {
     z: 0.0,
 };
 
-// A polygon by value: its vertices are at[0..n].
+// A polygon by value: its vertices are at[0..n]. The number stands beside an array, since a library for C has no heap, and it may be wrong:
+// `divide_poly` promises an answer for every n.
 #[derive(Clone, Copy)]
 pub struct Poly {
     pub at: [Corner; 7],
@@ -27,6 +28,7 @@ pub struct Parts {
 }
 
 // A part that is written down: its vertices are at[0..n]. A cut of 7 vertices gives a part at most 14.
+// No Vec, since the library has no heap.
 #[derive(Clone, Copy)]
 pub struct Polygon {
     pub at: [Corner; 14],

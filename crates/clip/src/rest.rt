@@ -1,7 +1,7 @@
 // What remains of a polygon while parts are cut off it, one after the other.
-ghost use Rattle.std.specs.Prelude.{◌≡◌, ◌≤◌, [], ◌∷◌, OnOk, List, length};
+ghost use Rattle.std.specs.Prelude.{◌≡◌, ◌≤◌, [], ◌∷◌, OnOk, OnErr, List, length, cond};
 ghost use Rattle.grid.specs.declared.Corner.{Corner};
-ghost use Rattle.clip.specs.Cut.{first_of, second_of, verdict_of, slice_cut};
+ghost use Rattle.clip.specs.Cut.{first_of, second_of, fitting, verdict_of, slice_cut};
 ghost use Rattle.clip.specs.Poly.{held};
 ghost use Rattle.clip.specs.Rest.{left, rest_of};
 
@@ -50,7 +50,7 @@ impl Rest {
         }
     }
 
-    // Cuts a part off, which stands whole where the cut is no error.
+    // Cuts a part off, which stands whole where the cut is no error. After an error nothing is cut off yet, and `first` is what `divide` leaves.
     #[inline(always)]
     pub fn cut<F: Part>(
         &mut self,
@@ -61,14 +61,16 @@ impl Rest {
         ensures verdict { result ≡ verdict_of (slice_cut axis offset (left self.old)) }
         ensures part { OnOk result (first.new ≡ F.made first.old (first_of axis offset (left self.old))) }
         ensures rest { OnOk result (left self.new ≡ second_of axis offset (left self.old)) }
+        ensures error { OnErr result (first.new ≡ cond (fitting (left self.old)) (F.made first.old (first_of axis offset (left self.old))) first.old) }
+        ensures stays { OnErr result (left self.new ≡ left self.old) }
     {
-        let swapped = self.swapped;
-        self.swapped = !swapped;
-        if swapped {
-            divide(self.other.vertices(), axis, offset, first, &mut self.one)
+        if self.swapped {
+            divide(self.other.vertices(), axis, offset, first, &mut self.one)?;
         } else {
-            divide(self.one.vertices(), axis, offset, first, &mut self.other)
+            divide(self.one.vertices(), axis, offset, first, &mut self.other)?;
         }
+        self.swapped = !self.swapped;
+        Ok(())
     }
 }
 

@@ -107,6 +107,7 @@ fn triangles(
         row: Rest::empty(),
     };
     for t in 0..mesh.areas.len() {
+        // With map_err and `?` the closure would have to be told t, and the lines are no fewer.
         if let Err(halt) = triangle_at(heads, slots, frame, mesh, threshold, &mut rests, t) {
             return Err(Refusal::Stopped(halt.why, t as u32, halt.made));
         }

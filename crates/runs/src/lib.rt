@@ -112,6 +112,7 @@ impl fmt::Display for Slot {
 }
 
 // All that is lent for a field but the marks, which each call is lent anew.
+// Arrays side by side, and not spans in one, since the library is lent a store slice by slice, as C lends it.
 #[derive(Clone, Copy, PartialEq, Eq)]
 pub struct Store<const COLUMNS: usize, const SLOTS: usize> {
     pub heads: [u32; COLUMNS],
