@@ -12,7 +12,7 @@ use lib.ListN.{length, set, take, drop, get_or}
 use lib.Seq.{sets, sets-eq, take-suc, take-append_seam, length-take-le, length-sets}
 use Rattle.grid.specs.declared.Corner.{Corner}
 use Rattle.clip.specs.declared.cell.Piece.{Piece}
-use Rattle.clip.specs.declared.poly.Polygon.{Polygon}
+use Rattle.clip.specs.declared.poly.Vertices.{Vertices}
 use Rattle.clip.specs.declared.rest.Rest.{Rest}
 use Rattle.clip.specs.declared.cut.Axis.{Axis}
 use Rattle.clip.specs.Cut.{y_of, fitting, first_of, second_of}
@@ -28,13 +28,13 @@ pub sets-append : {A : Type 0} (l : List A) (i : ℕ) (us vs : List A) → sets 
 sets-append l i [] vs = rw (add-zero i)
 sets-append l i (u ∷ us) vs = rw (add-suc i (length us), ← suc-add i (length us)) (sets-append (set l i u) (suc i) us vs)
 
-pub polygon-put : (p s : Polygon) (vs : List Corner) (at : ℕ) (v : Corner) → length vs ≡ at → p ≡ polygon_holding s vs → record { at = set p.at at v; n = p.n } ≡ polygon_holding s (vs ++ v ∷ [])
+pub polygon-put : (p s : Vertices 14) (vs : List Corner) (at : ℕ) (v : Corner) → length vs ≡ at → p ≡ polygon_holding s vs → record { at = set p.at at v; n = p.n } ≡ polygon_holding s (vs ++ v ∷ [])
 polygon-put p s vs at v e h =
     let to : set (sets s.at 0 vs) (length vs) v ≡ sets s.at 0 (vs ++ v ∷ []) = rw (sets-append s.at 0 vs (v ∷ []), zero-add (length vs)) in
     rw (h, ← e, to)
 
 -- what was written from the first place on is read back
-pub held-made : (p : Polygon) (vs : List Corner) → length vs ≤ length p.at → held (polygon_of p vs) ≡ vs
+pub held-made : (p : Vertices 14) (vs : List Corner) → length vs ≤ length p.at → held (polygon_of p vs) ≡ vs
 held-made p vs h = rw (sets-eq vs p.at 0 (omega (arith, h))) (take-append_seam vs (drop (0 + length vs) p.at))
 
 -- the same of what remains of such a part
@@ -46,18 +46,18 @@ module _ {axis : Axis} {offset : Float} {vs : List Corner} (fits : Fits axis off
   pub part-made : {P : Type 0} (made old : P) {new : P} → new ≡ cond (fitting vs) made old → new ≡ made
   part-made made old e = e ∙ rw fits.polygon_fits
 
-  pub first-held : (old : Polygon) {new : Polygon} → length old.at ≡ 14 → new ≡ cond (fitting vs) (polygon_of old (first_of axis offset vs)) old → held new ≡ first_of axis offset vs
+  pub first-held : (old : Vertices 14) {new : Vertices 14} → length old.at ≡ 14 → new ≡ cond (fitting vs) (polygon_of old (first_of axis offset vs)) old → held new ≡ first_of axis offset vs
   first-held old room e =
       rw (part-made (polygon_of old (first_of axis offset vs)) old e) (held-made old (first_of axis offset vs) (omega (arith, room, leb-true (length (first_of axis offset vs)) 7 fits.first_fits)))
 
-  pub second-held : (old : Polygon) {new : Polygon} → length old.at ≡ 14 → new ≡ cond (fitting vs) (polygon_of old (second_of axis offset vs)) old → held new ≡ second_of axis offset vs
+  pub second-held : (old : Vertices 14) {new : Vertices 14} → length old.at ≡ 14 → new ≡ cond (fitting vs) (polygon_of old (second_of axis offset vs)) old → held new ≡ second_of axis offset vs
   second-held old room e =
       rw (part-made (polygon_of old (second_of axis offset vs)) old e) (held-made old (second_of axis offset vs) (omega (arith, room, leb-true (length (second_of axis offset vs)) 7 fits.second_fits)))
 
-  pub first-few : (old : Polygon) {new : Polygon} → new ≡ cond (fitting vs) (polygon_of old (first_of axis offset vs)) old → new.n ≤ 7
+  pub first-few : (old : Vertices 14) {new : Vertices 14} → new ≡ cond (fitting vs) (polygon_of old (first_of axis offset vs)) old → new.n ≤ 7
   first-few old e = rw (part-made (polygon_of old (first_of axis offset vs)) old e) (leb-true (length (first_of axis offset vs)) 7 fits.first_fits)
 
-  pub second-few : (old : Polygon) {new : Polygon} → new ≡ cond (fitting vs) (polygon_of old (second_of axis offset vs)) old → new.n ≤ 7
+  pub second-few : (old : Vertices 14) {new : Vertices 14} → new ≡ cond (fitting vs) (polygon_of old (second_of axis offset vs)) old → new.n ≤ 7
   second-few old e = rw (part-made (polygon_of old (second_of axis offset vs)) old e) (leb-true (length (second_of axis offset vs)) 7 fits.second_fits)
 
 -- one more of a list's elements is stored

@@ -12,19 +12,19 @@ use Rattle.replies.specs.Said.{Said}
 use Rattle.grid.specs.declared.Corner.{Corner}
 use Rattle.clip.specs.declared.cut.Axis.{Axis}
 use Rattle.clip.specs.declared.cut.EighthVertex.{EighthVertex}
-use Rattle.clip.specs.declared.poly.Poly.{Poly}
+use Rattle.clip.specs.declared.poly.Vertices.{Vertices}
 use Rattle.clip.specs.declared.poly.Parts.{Parts}
 use Rattle.clip.specs.Cut.{Cut, parts, eighth, slice_cut}
-use Rattle.clip.specs.Poly.{vertices_of, poly_of, poly_cut, said_of, Answers}
+use Rattle.clip.specs.Poly.{held, poly_of, poly_cut, said_of, Answers}
 
 -- ---- a polygon of at most 7 vertices, and one that names more
-pub poly-few : (axis : Axis) (offset : Float) (p : Poly) → p.n ≤ 7 → p.n ≤ length p.at → poly_cut axis offset p ≡ slice_cut axis offset (vertices_of p)
+pub poly-few : (axis : Axis) (offset : Float) (p : Vertices 7) → p.n ≤ 7 → p.n ≤ length p.at → poly_cut axis offset p ≡ slice_cut axis offset (held p)
 unfolding poly_cut slice_cut
 poly-few axis offset p h k =
-    let n : length (vertices_of p) ≤ 7 = omega (arith, length-take-le p.n p.at k) in
-    rw (le-leb p.n 7 h, le-leb (length (vertices_of p)) 7 n)
+    let n : length (held p) ≤ 7 = omega (arith, length-take-le p.n p.at k) in
+    rw (le-leb p.n 7 h, le-leb (length (held p)) 7 n)
 
-pub poly-many : (axis : Axis) (offset : Float) (p : Poly) → 7 < p.n → poly_cut axis offset p ≡ eighth
+pub poly-many : (axis : Axis) (offset : Float) (p : Vertices 7) → 7 < p.n → poly_cut axis offset p ≡ eighth
 unfolding poly_cut
 poly-many axis offset p h = rw (lt-leb p.n 7 h)
 
@@ -33,7 +33,7 @@ pub refusal : (cut : Cut) (r : Result Parts EighthVertex) → cut ≡ eighth →
 refusal cut (Ok p) e h = let z : ◌≡◌ {A = ℕ} 0 1 = cc in absurd (omega arith)
 refusal cut (Err x) e h = rw e (record { said = refl; parts-are = tt })
 
-pub answer : (cut : Cut) (f s : List Corner) {first second : Poly} → cut ≡ parts f s → first ≡ poly_of f → second ≡ poly_of s → Answers cut (Ok (record { first = first; second = second }))
+pub answer : (cut : Cut) (f s : List Corner) {first second : Vertices 7} → cut ≡ parts f s → first ≡ poly_of f → second ≡ poly_of s → Answers cut (Ok (record { first = first; second = second }))
 answer cut f s e p q = rw e (record { said = refl; parts-are = (p, q) })
 
 -- ---- what is said tells the answers apart: one that says 0 has parts, and one that says 6 has none

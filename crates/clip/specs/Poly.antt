@@ -1,28 +1,31 @@
 -- Polygons by value: up to 7 vertices in an array, and what `divide_poly` answers; a part that is written down, up to 14. Definitions only.
-use Rattle.std.specs.Prelude.{◌≡◌, refl, cond, List, [], leb, length, take, replicate, Float, Result, Ok, Err}
+use Rattle.std.specs.Prelude.{◌≡◌, refl, ℕ, cond, List, [], leb, length, take, replicate, Float, Result, Ok, Err}
 use Rattle.std.proofs.lemmas.List.Edits.{sets}
 use Rattle.replies.specs.Said.{Said, just}
 use Rattle.grid.specs.declared.Corner.{Corner}
 use Rattle.clip.specs.declared.cut.Axis.{Axis}
 use Rattle.clip.specs.declared.cut.EighthVertex.{EighthVertex}
-use Rattle.clip.specs.declared.poly.Poly.{Poly}
-use Rattle.clip.specs.declared.poly.Polygon.{Polygon}
+use Rattle.clip.specs.declared.poly.Vertices.{Vertices}
 use Rattle.clip.specs.declared.poly.Parts.{Parts}
 use Rattle.clip.specs.Cut.{nought, most_vertices, Cut, parts, eighth, cut_of, cut_says}
 
-abbrev pub vertices_of : Poly → List Corner
-vertices_of p = take p.n p.at
+-- what a polygon holds
+abbrev pub held : {room : ℕ} → Vertices room → List Corner
+held p = take p.n p.at
 
--- the polygon of some vertices; past them every entry is 0
+-- the polygon of some vertices, with room for so many; past them every entry is 0
 abbrev pub origin : Corner
 origin = record { x = nought; y = nought; z = nought }
 
-abbrev pub poly_of : List Corner → Poly
-poly_of vs = record { at = sets (replicate most_vertices origin) 0 vs; n = length vs }
+abbrev pub vertices_in : (room : ℕ) → List Corner → Vertices room
+vertices_in room vs = record { at = sets (replicate room origin) 0 vs; n = length vs }
+
+abbrev pub poly_of : List Corner → Vertices 7
+poly_of vs = vertices_in most_vertices vs
 
 -- a polygon that names more than 7 vertices is refused as one whose cut would write an eighth
-unfoldable pub poly_cut : Axis → Float → Poly → Cut
-poly_cut axis offset p = cond (leb p.n most_vertices) (cut_of axis offset (vertices_of p)) eighth
+unfoldable pub poly_cut : Axis → Float → Vertices 7 → Cut
+poly_cut axis offset p = cond (leb p.n most_vertices) (cut_of axis offset (held p)) eighth
 
 -- ---- the answer: what it says, and both parts
 abbrev pub said_of : Result Parts EighthVertex → Said
@@ -39,16 +42,13 @@ pub record Answers (cut : Cut) (r : Result Parts EighthVertex) : Type 0 where
   pub said : said_of r ≡ cut_says cut
   pub parts-are : PartsAre cut r
 
--- ---- a part that is written down: what it holds, and what it is with other vertices from its first place on
-abbrev pub held : Polygon → List Corner
-held p = take p.n p.at
-
-abbrev pub polygon_of : Polygon → List Corner → Polygon
+-- ---- a part that is written down: what it is with other vertices from its first place on
+abbrev pub polygon_of : Vertices 14 → List Corner → Vertices 14
 polygon_of p vs = record { at = sets p.at 0 vs; n = length vs }
 
 -- until it has all its vertices, it still has as many as it had
-abbrev pub polygon_holding : Polygon → List Corner → Polygon
+abbrev pub polygon_holding : Vertices 14 → List Corner → Vertices 14
 polygon_holding p vs = record { at = sets p.at 0 vs; n = p.n }
 
-pub polygon_none : (p : Polygon) → p ≡ polygon_holding p []
+pub polygon_none : (p : Vertices 14) → p ≡ polygon_holding p []
 polygon_none p = refl

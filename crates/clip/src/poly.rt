@@ -1,7 +1,7 @@
 // Polygons by value, and their cut.
 ghost use Rattle.std.specs.Prelude.{◌≡◌, [], ◌≤◌};
 ghost use Rattle.clip.specs.Cut.{eighth};
-ghost use Rattle.clip.specs.Poly.{vertices_of, poly_of, poly_cut, Answers, held, polygon_of};
+ghost use Rattle.clip.specs.Poly.{vertices_in, poly_of, poly_cut, Answers, held};
 
 use super::cut::{Axis, EighthVertex, Part, divide};
 use grid::Corner;
@@ -15,10 +15,16 @@ const ORIGIN: Corner = Corner {
 // A polygon by value: its vertices are at[0..n]. The number stands beside an array, since a library for C has no heap, and it may be wrong:
 // `divide_poly` promises an answer for every n.
 #[derive(Clone, Copy)]
-pub struct Poly {
-    pub at: [Corner; 7],
+pub struct Vertices<const N: usize> {
+    pub at: [Corner; N],
     pub n: usize,
 }
+
+// What `divide_poly` takes and gives.
+pub type Poly = Vertices<7>;
+
+// A part that is written down. A cut of 7 vertices gives a part at most 14.
+pub type Polygon = Vertices<14>;
 
 // Both parts of a cut.
 #[derive(Clone, Copy)]
@@ -27,20 +33,13 @@ pub struct Parts {
     pub second: Poly,
 }
 
-// A part that is written down: its vertices are at[0..n]. A cut of 7 vertices gives a part at most 14.
-// No Vec, since the library has no heap.
-#[derive(Clone, Copy)]
-pub struct Polygon {
-    pub at: [Corner; 14],
-    pub n: usize,
-}
-
-impl Polygon {
+impl<const N: usize> Vertices<N> {
     pub fn empty() -> Self
-        ensures { held result ≡ [] }
+        ensures none { held result ≡ [] }
+        ensures whole { result ≡ vertices_in N [] }
     {
-        Polygon {
-            at: [ORIGIN; 14],
+        Vertices {
+            at: [ORIGIN; N],
             n: 0,
         }
     }
@@ -48,7 +47,7 @@ impl Polygon {
     pub fn vertices(&self) -> &[Corner]
         ensures { result.now ≡ held self.now }
     {
-        &self.at[..self.n.min(14)]
+        &self.at[..self.n.min(N)]
     }
 }
 
@@ -68,17 +67,6 @@ impl Part for Polygon {
     }
 
     ghost holding_none = { polygon_none };
-}
-
-impl Poly {
-    pub fn empty() -> Self
-        ensures { result ≡ poly_of [] }
-    {
-        Poly {
-            at: [ORIGIN; 7],
-            n: 0,
-        }
-    }
 }
 
 // The first 7 vertices of a part that has no more.
