@@ -86,6 +86,7 @@ fn look(columns: &Columns<'_>, s: u32, st: Stand, start: Reach) -> Option<Reach>
         → Sees result (looked (stand_of st) (reach_of start) (map (span_at (contents_in columns.now areas)) ss)) }
 {
     let mut at = s;
+    // apart, since a `Reach` carried whole from step to step is packed and unpacked at each
     let mut low = start.low;
     let mut high = start.high;
     while at != NONE {
