@@ -86,7 +86,9 @@ fn look(columns: &Columns<'_>, s: u32, st: Stand, start: Reach) -> Option<Reach>
         → Sees result (looked (stand_of st) (reach_of start) (map (span_at (contents_in columns.now areas)) ss)) }
 {
     let mut at = s;
-    let mut reach = start;
+    // apart, since a `Reach` carried whole from step to step is packed and unpacked at each
+    let mut low = start.low;
+    let mut high = start.high;
     while at != NONE {
         let i = at as usize;
         let ceiling = columns.ceilings[i];
@@ -95,10 +97,14 @@ fn look(columns: &Columns<'_>, s: u32, st: Stand, start: Reach) -> Option<Reach>
         }
         let next = columns.nexts[i];
         let floor = roof_of(columns.floors, next);
-        reach = see(st, ceiling, floor, reach)?;
+        let Some(Reach { low: a, high: b }) = see(st, ceiling, floor, Reach { low, high }) else {
+            return None;
+        };
+        low = a;
+        high = b;
         at = next;
     }
-    Some(reach)
+    Some(Reach { low, high })
 }
 
 // From slot `s` up, the first under a floor of at least `need`.
@@ -120,15 +126,14 @@ fn skip(columns: &Columns<'_>, s: u32, need: u32) -> u32
     at
 }
 
-// The slots beside, each moved up to the first under a floor that is high enough for the agent.
-fn follow(columns: &Columns<'_>, sides: Sides, st: Stand) -> Sides
+// The slots beside, each moved up to the first under a floor of at least `need`.
+fn follow(columns: &Columns<'_>, sides: Sides, need: u32) -> Sides
     requires even { length columns.now.floors.now ≡ length columns.now.nexts.now }
-    requires are_cursors { AreCursors columns.now (st.top + st.agent.height) sides }
+    requires are_cursors { AreCursors columns.now need sides }
     ensures keeps_cursors { (areas : List ℕ) (at : ℕ → List Span) (w i : ℕ)
-        → Serve columns.now areas (st.top + st.agent.height) at w i sides → Serve columns.now areas (st.top + st.agent.height) at w i result }
-    ensures all_under { AllUnder columns.now (st.top + st.agent.height) result }
+        → Serve columns.now areas need at w i sides → Serve columns.now areas need at w i result }
+    ensures all_under { AllUnder columns.now need result }
 {
-    let need = u32::from(st.top) + u32::from(st.agent.height);
     Sides {
         west: skip(columns, sides.west, need),
         north: skip(columns, sides.north, need),
@@ -150,10 +155,16 @@ fn look_around(columns: &Columns<'_>, sides: Sides, st: Stand) -> Option<Reach>
         low: st.top,
         high: st.top,
     };
-    let reach = look(columns, sides.west, st, start)?;
-    let reach = look(columns, sides.north, st, reach)?;
-    let reach = look(columns, sides.east, st, reach)?;
-    look(columns, sides.south, st, reach)
+    let Some(Reach { low, high }) = look(columns, sides.west, st, start) else {
+        return None;
+    };
+    let Some(Reach { low, high }) = look(columns, sides.north, st, Reach { low, high }) else {
+        return None;
+    };
+    let Some(Reach { low, high }) = look(columns, sides.east, st, Reach { low, high }) else {
+        return None;
+    };
+    look(columns, sides.south, st, Reach { low, high })
 }
 
 // Whether the spans from the slots beside up show a ledge.
@@ -181,16 +192,17 @@ fn judge(columns: &Columns<'_>, sides: Sides, hollow: u16, st: Stand, area: u8) 
         → Serve columns.now areas (st.top + st.agent.height) at w i sides → Inside (around w i) → hollow ≡ hollow_of at (around w i)
         → result.area ≡ cond (ledge (stand_of st) at (around w i)) 0 area }
 {
+    let need = u32::from(st.top) + u32::from(st.agent.height);
     if area == 0 {
         return Judged { area: 0, sides };
     }
-    if !has_room(st.top, st.agent.height, st.roof) {
+    if u32::from(st.roof) < need {
         return Judged { area, sides };
     }
-    if has_room(st.top, st.agent.height, hollow) {
+    if need <= u32::from(hollow) {
         return Judged { area: 0, sides };
     }
-    let sides = follow(columns, sides, st);
+    let sides = follow(columns, sides, need);
     if looks_steep(columns, sides, st) {
         return Judged { area: 0, sides };
     }

@@ -81,9 +81,11 @@ fn mark_columns(columns: &Columns<'_>, marks: &mut [u8]) -> Option<usize>
     requires no_marks { (length columns.now.nexts.now ≤ 1048576) × (marks.old ≡ replicate (length columns.now.nexts.now) 0) }
     ensures { MarksAll result columns.now.heads.now columns.now.floors.now columns.now.ceilings.now columns.now.nexts.now marks.new }
 {
+    // read once: the marks written could else be thought to change where the slices lie
+    let own = *columns;
     let mut n: usize = 0;
-    for head in columns.heads {
-        n = mark_column(columns, marks, *head, n)?;
+    for head in own.heads {
+        n = mark_column(&own, marks, *head, n)?;
     }
     Some(n)
 }
@@ -103,7 +105,8 @@ fn test_marked(columns: &Columns<'_>, marks: &mut [u8]) -> bool
     m == columns.nexts.len()
 }
 
-// Whether the store holds a sound field. The marks are all 0 afterwards.
+// Whether the store holds a sound field. The marks are all 0 afterwards. Not inlined, so that its loops have the registers to themselves.
+#[inline(never)]
 pub(crate) fn is_sound(columns: &Columns<'_>, marks: &mut [u8]) -> bool
     requires even { EvenSlots columns.now }
     requires marks_len { (length marks.old ≡ length columns.now.nexts.now) × (length columns.now.nexts.now ≤ 1048576) }

@@ -13,14 +13,14 @@ loop-at-init c =
 
 pub loop-at-preserved : goal.loop-at-preserved
 loop-at-preserved c =
-    let further = looking-step c.loop-at.invariant.0 c.loop-at-test.true (omega arith) (rw c.roof_of-floor.ensures at c.in_ok-reach.ensures) in
+    let further = looking-step c.loop-at.invariant.0 c.loop-at-test.true (omega arith) (rw c.roof_of-floor.ensures at c.in-Some.ensures) in
     (further, chain-reached further.left further.here)
 
-pub returns-in_err-reach : goal.returns-in_err-reach
-returns-in_err-reach c areas ss k =
+pub returns-in_default : goal.returns-in_default
+returns-in_default c areas ss k =
     let further = looking-step c.loop-at.invariant.0 c.loop-at-test.true (omega arith) refl in
-    let drop = rw c.roof_of-floor.ensures at c.in_err-reach.ensures in
-    rw (c.from_residual.ensures, ← looking-drop further drop areas ss k) drop
+    let drop = rw c.roof_of-floor.ensures at c.in_default.ensures in
+    rw (← looking-drop further drop areas ss k) drop
 
 pub returns-after-loop-at : goal.returns-after-loop-at
 returns-after-loop-at c = looking-end c.loop-at.invariant.0 c.loop-at-test.false

@@ -2,6 +2,8 @@
 use lib.ListN.{length}
 use Rattle.field.specs.Inner.{slots_from}
 use Rattle.field.proofs.LookingUp.{LookingUp}
+use Rattle.field.specs.LedgeTest.{view}
+use mathlib.Core.Bool.{false}
 use Rattle.rerecast.specs.PreFilter.{stand_of, reach_of}
 use Rattle.rerecast.proofs.Columns.{Reached}
 use Rattle.rerecast.proofs.ledges.look.Given as goal
@@ -9,7 +11,7 @@ use Rattle.rerecast.proofs.ledges.look.Given as goal
 abbrev pub invariant-loop-at : goal.invariant-loop-at
 invariant-loop-at l =
     let columns = l.columns in
-    LookingUp columns.floors.now columns.ceilings.now columns.nexts.now l.s (stand_of l.st) (reach_of l.initial.reach) (reach_of l.reach) l.at
+    LookingUp columns.floors.now columns.ceilings.now columns.nexts.now l.s (stand_of l.st) (reach_of l.fn.start) (view false l.low l.high) l.at
     × Reached columns.nexts.now l.at
 
 abbrev pub decreases-loop-at : goal.decreases-loop-at

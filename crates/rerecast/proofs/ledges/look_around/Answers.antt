@@ -11,7 +11,7 @@ use Rattle.field.specs.LedgeTest.{View, outset, looked}
 use Rattle.field.specs.FilterCode.{Cursor}
 use Rattle.field.proofs.Looking.{all_drop}
 use Rattle.field.proofs.Cursors.{cursor-look}
-use Rattle.rerecast.specs.PreFilter.{stand_of, reach_of}
+use Rattle.rerecast.specs.PreFilter.{stand_of}
 use Rattle.rerecast.proofs.ledges.look_around.Goals as goal
 
 -- a drop that is seen from a cursor up is one of the column, and stays one when more columns are looked at
@@ -19,23 +19,20 @@ falls : {k : Contents} {nx : List ℕ} {m : ℕ} {whole : List Span} {r : ℕ} (
     → m ≤ st.top + st.height → (looked st v (map (span_at k) c.rest)).drop ≡ true → (foldl (λ v k. looked st v (at k)) (looked st v whole) ks).drop ≡ true
 falls {k} c st v at ks l d = rw (c.enough st v l) (rw (all_drop st at (looked st v (map (span_at k) c.rest)) ks d) d)
 
-pub returns-in_err-reach : goal.returns-in_err-reach
-returns-in_err-reach c areas at w i k =
+pub returns-in_default : goal.returns-in_default
+returns-in_default c areas at w i k =
     let st = stand_of c.args.st in
-    rw c.from_residual.ensures
-    (falls k.0 st (outset st) at ((i + w) ∷ (i + 1) ∷ (i - w) ∷ []) (omega arith) (c.in_err-reach.ensures areas k.0.rest k.0.chain))
+    falls k.0 st (outset st) at ((i + w) ∷ (i + 1) ∷ (i - w) ∷ []) (omega arith) (c.in_default.ensures areas k.0.rest k.0.chain)
 
-pub returns-in_err-reach-2 : goal.returns-in_err-reach-2
-returns-in_err-reach-2 c areas at w i k =
+pub returns-in_default-look : goal.returns-in_default-look
+returns-in_default-look c areas at w i k =
     let st = stand_of c.args.st in
-    let west = cursor-look k.0 st _ _ (omega arith) (c.in_ok-reach.ensures areas k.0.rest k.0.chain) in
-    rw (c.from_residual-in_err-reach-2.ensures, ← west)
-    (falls k.1.0 st (reach_of c.in_ok-reach.reach) at ((i + 1) ∷ (i - w) ∷ []) (omega arith) (c.in_err-reach-2.ensures areas k.1.0.rest k.1.0.chain))
+    let west = cursor-look k.0 st _ _ (omega arith) (c.in-Some.ensures areas k.0.rest k.0.chain) in
+    rw (← west) (falls k.1.0 st _ at ((i + 1) ∷ (i - w) ∷ []) (omega arith) (c.in_default-look.ensures areas k.1.0.rest k.1.0.chain))
 
-pub returns-in_err-reach-3 : goal.returns-in_err-reach-3
-returns-in_err-reach-3 c areas at w i k =
+pub returns-in_default-look-2 : goal.returns-in_default-look-2
+returns-in_default-look-2 c areas at w i k =
     let st = stand_of c.args.st in
-    let west = cursor-look k.0 st _ _ (omega arith) (c.in_ok-reach.ensures areas k.0.rest k.0.chain) in
-    let north = cursor-look k.1.0 st _ _ (omega arith) (c.in_ok-reach-2.ensures areas k.1.0.rest k.1.0.chain) in
-    rw (c.from_residual-in_err-reach-3.ensures, ← west, ← north)
-    (falls k.1.1.0 st (reach_of c.in_ok-reach-2.reach) at ((i - w) ∷ []) (omega arith) (c.in_err-reach-3.ensures areas k.1.1.0.rest k.1.1.0.chain))
+    let west = cursor-look k.0 st _ _ (omega arith) (c.in-Some.ensures areas k.0.rest k.0.chain) in
+    let north = cursor-look k.1.0 st _ _ (omega arith) (c.in-Some-look.ensures areas k.1.0.rest k.1.0.chain) in
+    rw (← west, ← north) (falls k.1.1.0 st _ at ((i - w) ∷ []) (omega arith) (c.in_default-look-2.ensures areas k.1.1.0.rest k.1.1.0.chain))
