@@ -1,6 +1,5 @@
 // Polygons by value, and their cut.
 ghost use Rattle.std.specs.Prelude.{◌≡◌, [], ◌≤◌};
-ghost use Rattle.clip.specs.Cut.{eighth};
 ghost use Rattle.clip.specs.Poly.{vertices_in, poly_of, poly_cut, Answers, held};
 
 use super::cut::{Axis, EighthVertex, Part, divide};
