@@ -155,9 +155,9 @@ fn link_to(compact: &Compact<'_>, side: Side, from: u8, q: Post) -> Found
 }
 
 // The word of an open space with its links to the cells beside.
-fn bind(compact: &Compact<'_>, sides: &[Side; 4], cursors: [u8; 4], q: Post) -> Bound
+fn bind(compact: &Compact<'_>, sides: &[Side; 4], cursors: &[u8; 4], q: Post) -> Bound
     requires within { (length sides.now ≡ 4) × Within compact.now.ys.now compact.now.words.now sides.now }
-    requires left { AllLeft q.tall q.climb q.y compact.now.ys.now compact.now.words.now sides.now cursors }
+    requires left { AllLeft q.tall q.climb q.y compact.now.ys.now compact.now.words.now sides.now cursors.now }
     ensures { (result.word ≡ word_of (passes q.tall q.climb) (layers_of compact.now.ys.now compact.now.words.now sides.now) (space q.y q.height 0))
         × (result.missed ≡ missed_of (passes q.tall q.climb) (layers_of compact.now.ys.now compact.now.words.now sides.now) (space q.y q.height 0))
         × AllLeft q.tall q.climb q.y compact.now.ys.now compact.now.words.now sides.now result.cursors }
@@ -204,7 +204,7 @@ fn link_spans(
             tall,
             climb,
         };
-        let bound = bind(compact, &sides, cursors, q);
+        let bound = bind(compact, &sides, &cursors, q);
         compact.words[k] = bound.word;
         cursors = bound.cursors;
         most = most.max(bound.missed);
