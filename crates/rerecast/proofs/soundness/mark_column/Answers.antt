@@ -8,15 +8,17 @@ use Rattle.rerecast.proofs.soundness.mark_column.Goals.{then-floor-low-via-then-
 pub returns-then-i-columns : goal.returns-then-i-columns
 returns-then-i-columns c =
     elim c.then-i-columns.branch [
-      then-i-columns-via-then-i-columns w ↦ marking-out c.loop-at.invariant c.loop-at-test.true w.if-i-columns.true
-    | then-i-columns-via-else-i-columns+then-marks-i-ne0 w ↦ marking-twice c.loop-at.invariant c.loop-at-test.true w.if-marks-i-ne0.true ]
+      | then-i-columns-via-then-i-columns w ↦ marking-out c.loop-at.invariant c.loop-at-test.true w.if-i-columns.true
+      | then-i-columns-via-else-i-columns+then-marks-i-ne0 w ↦ marking-twice c.loop-at.invariant c.loop-at-test.true w.if-marks-i-ne0.true
+    ]
 
 pub returns-then-floor-low : goal.returns-then-floor-low
 returns-then-floor-low c =
     elim c.then-floor-low.branch [
-      then-floor-low-via-then-floor-low w ↦ marking-low _ _ c.loop-at.invariant c.loop-at-test.true refl c.from-floor.ensures w.if-floor-low.true
-    | then-floor-low-via-else-floor-low+then-ceiling-floor w ↦
-      marking-thin _ _ c.loop-at.invariant c.loop-at-test.true refl c.from-floor.ensures c.from-ceiling.ensures w.if-ceiling-floor.true ]
+      | then-floor-low-via-then-floor-low w ↦ marking-low _ _ c.loop-at.invariant c.loop-at-test.true refl c.from-floor.ensures w.if-floor-low.true
+      | then-floor-low-via-else-floor-low+then-ceiling-floor w ↦
+          marking-thin _ _ c.loop-at.invariant c.loop-at-test.true refl c.from-floor.ensures c.from-ceiling.ensures w.if-ceiling-floor.true
+    ]
 
 pub loop-at-smaller : goal.loop-at-smaller
 loop-at-smaller c = marking-less c.loop-at.invariant c.if-i-columns.false c.if-marks-i-ne0.false

@@ -7,8 +7,9 @@ use Rattle.rerecast.proofs.soundness.mark_free.Goals.{then-i-nexts-via-then-i-ne
 pub returns-then-i-nexts : goal.returns-then-i-nexts
 returns-then-i-nexts c =
     elim c.then-i-nexts.branch [
-      then-i-nexts-via-then-i-nexts w ↦ run_out c.loop-at.invariant c.loop-at-test.true refl c.mark_run-i.ensures w.if-i-nexts.true
-    | then-i-nexts-via-else-i-nexts+then-marks-i-ne0 w ↦ run-twice c.loop-at.invariant c.loop-at-test.true refl c.mark_run-i.ensures w.if-marks-i-ne0.true ]
+      | then-i-nexts-via-then-i-nexts w ↦ run_out c.loop-at.invariant c.loop-at-test.true refl c.mark_run-i.ensures w.if-i-nexts.true
+      | then-i-nexts-via-else-i-nexts+then-marks-i-ne0 w ↦ run-twice c.loop-at.invariant c.loop-at-test.true refl c.mark_run-i.ensures w.if-marks-i-ne0.true
+    ]
 
 pub overflow_sub-n : goal.overflow_sub-n
 overflow_sub-n c = (run_room c.loop-at.invariant c.loop-at-test.true refl c.mark_run-i.ensures).0
