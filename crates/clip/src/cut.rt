@@ -1,7 +1,8 @@
 // The cut of a polygon along x or z: what its vertices, one after another, give to either side.
 ghost use Rattle.std.specs.Prelude.{◌≡◌, [], ◌∷◌, ◌++◌, ◌+◌, ◌≤◌, ◌<◌, List, ℕ, length, cond};
+ghost use Rattle.std.specs.Float.Ieee.{le};
 ghost use Rattle.grid.specs.declared.Corner.{Corner};
-ghost use Rattle.clip.specs.Cut.{along, crossing_of, joining, to_first, to_second, first_of, second_of, fitting, verdict_of, slice_cut};
+ghost use Rattle.clip.specs.Cut.{nought, along, distance, crossing_of, joining, to_first, to_second, first_of, second_of, fitting, verdict_of, slice_cut};
 
 use grid::Corner;
 
@@ -14,6 +15,14 @@ pub enum Axis {
 // Reply 6: a cut would give a part an eighth vertex.
 #[derive(Clone, Copy)]
 pub struct EighthVertex;
+
+// A vertex of the round, with its d, and whether d ≥ 0 holds: the vertex after it asks that once more.
+#[derive(Clone, Copy)]
+struct Passed {
+    vertex: Corner,
+    d: f32,
+    before: bool,
+}
 
 // How many vertices each part of a cut has.
 #[derive(Clone, Copy)]
@@ -47,6 +56,21 @@ fn coordinate(v: Corner, axis: Axis) -> f32
     match axis {
         Axis::X => v.x,
         Axis::Z => v.z,
+    }
+}
+
+impl Passed {
+    fn of(vertex: Corner, axis: Axis, offset: f32) -> Self
+        ensures vertex { result.vertex ≡ vertex }
+        ensures d { result.d ≡ distance axis offset vertex }
+        ensures before { result.before ≡ le nought result.d }
+    {
+        let d = offset - coordinate(vertex, axis);
+        Passed {
+            vertex,
+            d,
+            before: d >= 0.0,
+        }
     }
 }
 
@@ -96,26 +120,19 @@ fn join<F: Part, S: Part>(
 }
 
 // What the vertex a, with b before it, gives to each part.
-fn turn<F: Part, S: Part>(
-    first: &mut F,
-    second: &mut S,
-    n: Counts,
-    b: Corner,
-    a: Corner,
-    db: f32,
-    da: f32,
-) -> Counts
-    requires { (n.first + 1 < 14) × (n.second + 1 < 14) }
-    ensures counts { (result.first ≡ n.first + length (to_first b a db da)) × (result.second ≡ n.second + length (to_second b a db da)) }
-    ensures first { (s : F) (vs : List Corner) → length vs ≡ n.first → first.old ≡ F.holding s vs → first.new ≡ F.holding s (vs ++ to_first b a db da) }
-    ensures second { (s : S) (vs : List Corner) → length vs ≡ n.second → second.old ≡ S.holding s vs → second.new ≡ S.holding s (vs ++ to_second b a db da) }
+fn turn<F: Part, S: Part>(first: &mut F, second: &mut S, n: Counts, b: Passed, a: Passed) -> Counts
+    requires room { (n.first + 1 < 14) × (n.second + 1 < 14) }
+    requires tested { (b.before ≡ le nought b.d) × (a.before ≡ le nought a.d) }
+    ensures counts { (result.first ≡ n.first + length (to_first b.vertex a.vertex b.d a.d)) × (result.second ≡ n.second + length (to_second b.vertex a.vertex b.d a.d)) }
+    ensures first { (s : F) (vs : List Corner) → length vs ≡ n.first → first.old ≡ F.holding s vs → first.new ≡ F.holding s (vs ++ to_first b.vertex a.vertex b.d a.d) }
+    ensures second { (s : S) (vs : List Corner) → length vs ≡ n.second → second.old ≡ S.holding s vs → second.new ≡ S.holding s (vs ++ to_second b.vertex a.vertex b.d a.d) }
 {
-    if (da >= 0.0) == (db >= 0.0) {
-        return join(first, second, n, a, da >= 0.0, da <= 0.0);
+    if a.before == b.before {
+        return join(first, second, n, a.vertex, a.before, a.d <= 0.0);
     }
-    let c = crossing(b, a, db, da);
+    let c = crossing(b.vertex, a.vertex, b.d, a.d);
     let m = join(first, second, n, c, true, true);
-    join(first, second, m, a, da > 0.0, da < 0.0)
+    join(first, second, m, a.vertex, a.d > 0.0, a.d < 0.0)
 }
 
 // The round of a polygon, whose last vertex stands before its first.
@@ -139,14 +156,11 @@ fn go_round<F: Part, S: Part>(
     let Some(last) = vs.last() else {
         return n;
     };
-    let mut b = *last;
-    let mut db = offset - coordinate(b, axis);
+    let mut b = Passed::of(*last, axis, offset);
     for v in vs {
-        let a = *v;
-        let da = offset - coordinate(a, axis);
-        n = turn(first, second, n, b, a, db, da);
+        let a = Passed::of(*v, axis, offset);
+        n = turn(first, second, n, b, a);
         b = a;
-        db = da;
     }
     n
 }

@@ -1,10 +1,14 @@
 -- `clip::cut::go_round` meets its contract.
 use mathlib.Core.Path.{◌≡◌, refl, sym, ap, ◌∙◌}
+use mathlib.Core.List.{List, ◌++◌}
+use Prim.Native.Nat.{◌-◌}
 use native.Mathlib.Omega.{arith}
-use lib.Ieee.{Float, binary32, nan, sub}
-use lib.ListN.{length, length-append, take, get_or}
+use lib.Ieee.{nan}
+use lib.ListN.{length, length-append, take}
+use Rattle.std.specs.Prelude.{Some}
+use Rattle.std.specs.List.{slice_get}
 use Rattle.grid.specs.declared.Corner.{Corner}
-use Rattle.clip.specs.Cut.{to_first, to_second, onward, first_of, second_of, gives_first, gives_second}
+use Rattle.clip.specs.Cut.{to_first, to_second, distance, onward, around, gives_first, gives_second}
 use Rattle.clip.proofs.Rounds.{none-last, around-last, around-none, onward-all, turn-next, last-next, first_two, second-two}
 use Rattle.clip.proofs.cut.go_round.Goals as goal
 use Rattle.clip.proofs.cut.go_round.Goals.{After-loop-v}
@@ -28,39 +32,47 @@ returns-in_default-clause-second g c =
 
 pub loop-v-init : goal.loop-v-init
 unfolding onward
-loop-v-init g c = record {
-  few_first = omega arith;
-  few_second = omega arith;
-  before = refl;
-  offset_of = ap (λ (x : Float). sub binary32 c.args.offset x) c.coordinate.ensures;
-  many_first = refl;
-  many_second = refl;
-  first = g.met.F.Part.holding_none _;
-  second = g.met.S.Part.holding_none _;
-}
+loop-v-init g c =
+    let start = c.of-b.ensures in
+    record {
+      few_first = omega arith;
+      few_second = omega arith;
+      before = refl;
+      offset_of = start.d ∙ ap (λ (v : Corner). distance c.args.axis c.args.offset v) (sym start.vertex);
+      tested = start.before;
+      many_first = refl;
+      many_second = refl;
+      first = g.met.F.Part.holding_none _;
+      second = g.met.S.Part.holding_none _;
+    }
 
 pub turn-n-requires : goal.turn-n-requires
 turn-n-requires g c =
     let v = c.loop-v in
-    (omega (arith, v.invariant.few_first, c.loop-v-test.true, c.requires), omega (arith, v.invariant.few_second, c.loop-v-test.true, c.requires))
+    record {
+      room = (omega (arith, v.invariant.few_first, c.loop-v-test.true, c.requires), omega (arith, v.invariant.few_second, c.loop-v-test.true, c.requires));
+      tested = (v.invariant.tested, c.of-a.ensures.before);
+    }
 
 pub loop-v-preserved : goal.loop-v-preserved
 loop-v-preserved g c =
     let v = c.loop-v in
     let a = c.args in
     let t = c.turn-n in
+    let next = c.of-a in
     let inside = c.loop-v-test.true in
-    let b = c.in-Some.last.now in
+    let b = c.of-b.result.vertex in
     let o : Corner = record { x = nan; y = nan; z = nan } in
-    let w = get_or a.vs.now v.v-index o in
-    let da = ap (λ (x : Float). sub binary32 a.offset x) c.coordinate-in-loop-v.ensures in
-    let firsts = turn-next a.axis a.offset to_first b o a.vs.now v.v-index inside v.b v.db _ v.invariant.before v.invariant.offset_of da in
-    let seconds = turn-next a.axis a.offset to_second b o a.vs.now v.v-index inside v.b v.db _ v.invariant.before v.invariant.offset_of da in
+    let firsts = ap (λ (w : Corner). onward (gives_first a.axis a.offset) b (take v.v-index a.vs.now) ++ to_first v.b.vertex w v.b.d next.result.d) next.ensures.vertex
+    ∙ turn-next a.axis a.offset to_first b o a.vs.now v.v-index inside v.b.vertex v.b.d _ v.invariant.before v.invariant.offset_of next.ensures.d in
+    let seconds = ap (λ (w : Corner). onward (gives_second a.axis a.offset) b (take v.v-index a.vs.now) ++ to_second v.b.vertex w v.b.d next.result.d) next.ensures.vertex
+    ∙ turn-next a.axis a.offset to_second b o a.vs.now v.v-index inside v.b.vertex v.b.d _ v.invariant.before v.invariant.offset_of next.ensures.d in
     record {
-      few_first = omega (arith, t.ensures.counts.0, first_two v.b w v.db (sub binary32 a.offset c.coordinate-in-loop-v.result), v.invariant.few_first);
-      few_second = omega (arith, t.ensures.counts.1, second-two v.b w v.db (sub binary32 a.offset c.coordinate-in-loop-v.result), v.invariant.few_second);
-      before = last-next b o a.vs.now v.v-index inside;
-      offset_of = da;
+      few_first = omega (arith, t.ensures.counts.0, first_two v.b.vertex next.result.vertex v.b.d next.result.d, v.invariant.few_first);
+      few_second = omega (arith, t.ensures.counts.1, second-two v.b.vertex next.result.vertex v.b.d next.result.d, v.invariant.few_second);
+      before = next.ensures.vertex ∙ last-next b o a.vs.now v.v-index inside;
+      offset_of = next.ensures.d ∙ ap (λ (w : Corner). distance a.axis a.offset w) (sym next.ensures.vertex);
+      tested = next.ensures.before;
       many_first = ap length (sym firsts) ∙ length-append (onward (gives_first a.axis a.offset) b (take v.v-index a.vs.now)) _ ∙ rw (v.invariant.many_first) (sym t.ensures.counts.0);
       many_second = ap length (sym seconds) ∙ length-append (onward (gives_second a.axis a.offset) b (take v.v-index a.vs.now)) _ ∙ rw (v.invariant.many_second) (sym t.ensures.counts.1);
       first = t.ensures.first _ _ v.invariant.many_first v.invariant.first ∙ ap (λ vs. g.F.Part.holding a.first.now vs) firsts;
@@ -68,26 +80,22 @@ loop-v-preserved g c =
     }
 
 -- the round is over once all vertices are passed
-all-first : (g : Over) (c : After-loop-v g) → onward (gives_first c.args.axis c.args.offset) c.in-Some.last.now (take c.loop-v.v-index c.args.vs.now) ≡ first_of c.args.axis c.args.offset c.args.vs.now
-all-first g c =
-    let a = c.args in
-    let gives = gives_first a.axis a.offset in
-    onward-all gives c.in-Some.last.now a.vs.now c.loop-v.v-index c.loop-v.auto.v-index-end c.loop-v-test.false ∙ sym (around-last gives _ a.vs.now c.in-Some.ensures.value)
+module _ (g : Over) (c : After-loop-v g) where
+  start : Some c.of-b.result.vertex ≡ slice_get c.args.vs.now (length c.args.vs.now - 1)
+  start = ap (λ (v : Corner). Some v) c.of-b.ensures.vertex ∙ c.in-Some.ensures.value
 
-all-second : (g : Over) (c : After-loop-v g) → onward (gives_second c.args.axis c.args.offset) c.in-Some.last.now (take c.loop-v.v-index c.args.vs.now) ≡ second_of c.args.axis c.args.offset c.args.vs.now
-all-second g c =
-    let a = c.args in
-    let gives = gives_second a.axis a.offset in
-    onward-all gives c.in-Some.last.now a.vs.now c.loop-v.v-index c.loop-v.auto.v-index-end c.loop-v-test.false ∙ sym (around-last gives _ a.vs.now c.in-Some.ensures.value)
+  round : (gives : Corner → Corner → List Corner) → onward gives c.of-b.result.vertex (take c.loop-v.v-index c.args.vs.now) ≡ around gives c.args.vs.now
+  round gives =
+      onward-all gives c.of-b.result.vertex c.args.vs.now c.loop-v.v-index c.loop-v.auto.v-index-end c.loop-v-test.false ∙ sym (around-last gives _ c.args.vs.now start)
 
 pub returns-clause-counts : goal.returns-clause-counts
 returns-clause-counts g c = (
-  sym c.loop-v.invariant.many_first ∙ ap length (all-first g c),
-  sym c.loop-v.invariant.many_second ∙ ap length (all-second g c),
+  sym c.loop-v.invariant.many_first ∙ ap length (round g c (gives_first c.args.axis c.args.offset)),
+  sym c.loop-v.invariant.many_second ∙ ap length (round g c (gives_second c.args.axis c.args.offset)),
 )
 
 pub returns-clause-first : goal.returns-clause-first
-returns-clause-first g c = c.loop-v.invariant.first ∙ ap (λ vs. g.F.Part.holding c.args.first.now vs) (all-first g c)
+returns-clause-first g c = c.loop-v.invariant.first ∙ ap (λ vs. g.F.Part.holding c.args.first.now vs) (round g c (gives_first c.args.axis c.args.offset))
 
 pub returns-clause-second : goal.returns-clause-second
-returns-clause-second g c = c.loop-v.invariant.second ∙ ap (λ vs. g.S.Part.holding c.args.second.now vs) (all-second g c)
+returns-clause-second g c = c.loop-v.invariant.second ∙ ap (λ vs. g.S.Part.holding c.args.second.now vs) (round g c (gives_second c.args.axis c.args.offset))
