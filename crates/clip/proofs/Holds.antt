@@ -57,3 +57,9 @@ first-unfit last (negsuc n) r h = refl
 pub nat_abs_le : (z : ℤ) → mag z < 2147483648 → FitsUnsignedBits 32 z → nat_abs z < 2147483648
 nat_abs_le (pos n) r h = omega arith
 nat_abs_le (negsuc n) r h = absurd h
+
+-- a number of 32 bits stays one
+pub held_fits : (last : ℕ) (z : ℤ) → mag z < 2147483648 → held_to 0 last z < 2147483648
+unfolding held_to
+held_fits last (pos n) h = omega arith
+held_fits last (negsuc n) h = omega arith

@@ -9,7 +9,7 @@ use borrow.Author.Tests.{leb-true}
 use mathlib.Core.Bool.{cond}
 use lib.Ieee.{Float}
 use lib.ListN.{length, set, take, drop, get_or}
-use lib.Seq.{sets, sets-eq, take-suc, take-append_seam, length-take-le, length-sets}
+use lib.Seq.{sets, set_out, sets-eq, take-suc, take-append_seam, length-take-le, length-sets}
 use Rattle.grid.specs.declared.Corner.{Corner}
 use Rattle.clip.specs.declared.cell.Piece.{Piece}
 use Rattle.clip.specs.declared.poly.Vertices.{Vertices}
@@ -32,6 +32,10 @@ pub polygon-put : (p s : Vertices 14) (vs : List Corner) (at : ℕ) (v : Corner)
 polygon-put p s vs at v e h =
     let to : set (sets s.at 0 vs) (length vs) v ≡ sets s.at 0 (vs ++ v ∷ []) = rw (sets-append s.at 0 vs (v ∷ []), zero-add (length vs)) in
     rw (h, ← e, to)
+
+-- the same where there is no room for it: it is not written
+pub polygon-full : (p s : Vertices 14) (vs : List Corner) (at : ℕ) (v : Corner) → length vs ≡ at → length p.at ≤ at → p ≡ polygon_holding s vs → p ≡ polygon_holding s (vs ++ v ∷ [])
+polygon-full p s vs at v e full h = rw (set_out p.at at v full) at (polygon-put p s vs at v e h)
 
 -- what was written from the first place on is read back
 pub held-made : (p : Vertices 14) (vs : List Corner) → length vs ≤ length p.at → held (polygon_of p vs) ≡ vs

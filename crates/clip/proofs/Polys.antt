@@ -36,12 +36,18 @@ refusal cut (Err x) e h = rw e (record { said = refl; parts-are = tt })
 pub answer : (cut : Cut) (f s : List Corner) {first second : Vertices 7} → cut ≡ parts f s → first ≡ poly_of f → second ≡ poly_of s → Answers cut (Ok (record { first = first; second = second }))
 answer cut f s e p q = rw e (record { said = refl; parts-are = (p, q) })
 
--- ---- what is said tells the answers apart: one that says 0 has parts, and one that says 6 has none
-pub said-once : (a b : Result Parts EighthVertex) → said_of a ≡ said_of b → is_ok a ≡ is_ok b
+-- ---- what is said tells the answers apart; of one that carries parts, whether it has them
+pub said-once : (a b : Result Unit EighthVertex) → said_of a ≡ said_of b → a ≡ b
 said-once (Ok p) (Ok q) e = refl
 said-once (Ok p) (Err d) e = let n = ap (λ (s : Said). s.number) e in absurd (omega (arith, n))
 said-once (Err d) (Ok q) e = let n = ap (λ (s : Said). s.number) e in absurd (omega (arith, n))
 said-once (Err d) (Err e) f = refl
+
+pub accepted-once : (a b : Result Parts EighthVertex) → said_of a ≡ said_of b → is_ok a ≡ is_ok b
+accepted-once (Ok p) (Ok q) e = refl
+accepted-once (Ok p) (Err d) e = let n = ap (λ (s : Said). s.number) e in absurd (omega (arith, n))
+accepted-once (Err d) (Ok q) e = let n = ap (λ (s : Said). s.number) e in absurd (omega (arith, n))
+accepted-once (Err d) (Err e) f = refl
 
 -- ---- a cut has one answer
 pub one_answer : (cut : Cut) (r r' : Result Parts EighthVertex) → Answers cut r → Answers cut r' → r ≡ r'

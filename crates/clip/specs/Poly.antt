@@ -27,8 +27,8 @@ poly_of vs = vertices_in most_vertices vs
 unfoldable pub poly_cut : Axis → Float → Vertices 7 → Cut
 poly_cut axis offset p = cond (leb p.n most_vertices) (cut_of axis offset (held p)) eighth
 
--- ---- the answer: what it says, and both parts
-abbrev pub said_of : Result Parts EighthVertex → Said
+-- ---- the answer: what it says, whatever it carries where it accepts, and both parts
+abbrev pub said_of : {T : Type 0} → Result T EighthVertex → Said
 said_of (Ok p) = just 0
 said_of (Err e) = just 6
 

@@ -40,7 +40,6 @@ pub trait Part {
 
     // The vertex v, after `at` others.
     fn put(&mut self, at: usize, v: Corner)
-        requires { at < 14 }
         ensures { (s : Self) (vs : List Corner) → length vs ≡ at → self.old ≡ holding s vs → self.new ≡ holding s (vs ++ v ∷ []) };
 
     // There were n.

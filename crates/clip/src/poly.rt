@@ -58,7 +58,9 @@ impl Part for Polygon {
     ghost made = { polygon_of };
 
     fn put(&mut self, at: usize, v: Corner) {
-        self.at[at] = v;
+        if at < self.at.len() {
+            self.at[at] = v;
+        }
     }
 
     fn end(&mut self, n: usize) {

@@ -14,6 +14,21 @@ pub struct CompactCell {
     pub count: u8,
 }
 
+// The places of a cell's spans: from `start`, and before `end`. A `Range` is no `Copy`; `Range::from` makes one of it.
+#[derive(Clone, Copy, Debug, PartialEq, Eq)]
+pub struct IndexRange {
+    pub start: usize,
+    pub end: usize,
+}
+
+impl From<IndexRange> for Range<usize> {
+    ghost from_gives = { λ i r. (r.start ≡ i.start) × (r.end ≡ i.end) };
+
+    fn from(places: IndexRange) -> Range<usize> {
+        places.start..places.end
+    }
+}
+
 // A cell's count can't be raised: it is the largest. Reply 11.
 #[derive(Clone, Copy, Debug, PartialEq, Eq)]
 pub struct Full;
@@ -68,11 +83,14 @@ impl CompactCell {
     }
 
     // Where the cell's spans stand. The sum can't overflow: both numbers are far below the range of usize.
-    pub fn index_range(self) -> Range<usize>
+    pub fn index_range(self) -> IndexRange
         ensures { (result.start ≡ self.index) × (result.end ≡ self.index + self.count) }
     {
         let start = self.index as usize;
-        start..start + self.count as usize
+        IndexRange {
+            start,
+            end: start + self.count as usize,
+        }
     }
 
     // One more span in a lent cell: at the largest count it stays, with reply 11.

@@ -1,5 +1,5 @@
 -- The lesser and the greater of two floats: each is one of the two, and where neither is NaN it is on the right side of both.
-use Rattle.std.proofs.Common.{◌≡◌, ℕ, ◌*◌, Bool, true, false, cond, not, ◌||◌, ◌⊎◌, refl, ap, ◌∙◌, inl, inr, le_refl, le-ltb}
+use Rattle.std.proofs.Common.{◌≡◌, ℕ, ◌*◌, Bool, true, false, cond, not, ◌||◌, ◌⊎◌, sym, refl, ap, ◌∙◌, inl, inr, le_refl, le-ltb}
 use lib.Ieee.{Float, nan, inf, fin, up, down, below, lt, le, eq, is_nan}
 use Rattle.ops.specs.Order.{lesser_of, greater_of}
 use Rattle.ops.proofs.Order.{le_total}
@@ -28,6 +28,12 @@ pub le_of_not_lt : (x y : Float) → is_nan x ≡ false → is_nan y ≡ false �
 le_of_not_lt x y p q h = le_total x y p q ∙ ap not h
 
 -- ---- the choice
+
+pub second : (t : Bool) (a b : Float) → t ≡ true → b ≡ cond t b a
+second t a b h = ap (λ (t : Bool). cond t b a) (sym h)
+
+pub first : (t : Bool) (a b : Float) → t ≡ false → a ≡ cond t b a
+first t a b h = ap (λ (t : Bool). cond t b a) (sym h)
 
 one_of : (t : Bool) (a b : Float) → (cond t b a ≡ a) ⊎ (cond t b a ≡ b)
 one_of true a b = inr refl

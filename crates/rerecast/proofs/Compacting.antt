@@ -2,22 +2,37 @@
 use mathlib.Core.Path.{◌≡◌, ap, ◌∙◌}
 use mathlib.Core.Bool.{Bool}
 use mathlib.Core.List.{List, [], ◌∷◌, map, foldl}
-use Prim.Native.Nat.{ℕ, max}
+use Prim.Native.Nat.{ℕ, max, ◌+◌, ◌-◌, ◌≤◌, ◌<◌}
+use native.Mathlib.Nat.{add-zero}
 use native.Mathlib.Omega.{arith}
-use lib.ListN.{length, get_or}
-use lib.Seq.{length-sets}
+use borrow.Author.Tests.{lt-ltb}
+use lib.ListN.{length, get_or, set, drop}
+use borrow.Rule.Slice.PartMut.{mid_of, put_mid, mid_len, set_mid_at}
+use Rattle.compact_cell.specs.Cell.{count_after, raised_counts}
+use lib.Seq.{length-sets, get_or-take, get_or-drop}
 use Rattle.compact_span.specs.Word.{word, held}
 use Rattle.compact_span.proofs.Base64.{word_held}
 use Rattle.field.specs.Open.{Open, space}
 use Rattle.field.specs.Links.{passes, link, missed, word_of, missed_of}
 use Rattle.field.specs.Compact.{Result}
-use Rattle.field.specs.Rowing.{shown}
+use Rattle.field.specs.Rowing.{shown, raised_by}
 use Rattle.field.proofs.Sides.{link-small}
 use Rattle.rerecast.specs.declared.sides.Side.{Side}
 use Rattle.rerecast.specs.declared.links.Found.{Found}
 use Rattle.rerecast.specs.declared.lent.Compact.{Compact}
 use Rattle.rerecast.specs.Lent.{SameCompact}
 use Rattle.rerecast.specs.Compacting.{layers_of, linked, Left, AllLeft}
+
+-- raising a count that has room adds one to it: here in the part of the counts that begins with it
+pub raised-in-part : (x : ℕ) (counts : List ℕ) (i : ℕ) {part : List ℕ} → i < length counts → get_or counts i 0 + 1 ≤ 255 → part ≡ raised_counts (x ∷ []) (mid_of i (length counts - i) counts) 0 → put_mid i (length counts - i) counts part ≡ raised_by counts i 1
+raised-in-part x counts i {part} there room e =
+    let k : ℕ = length counts - i in
+    let mid : List ℕ = mid_of i k counts in
+    let some : 0 < length mid = omega (arith, there, mid_len i (length counts) counts (omega arith)) in
+    let first : get_or mid 0 0 ≡ get_or counts i 0 = get_or-take k (drop i counts) 0 0 (omega (arith, there)) ∙ get_or-drop i counts 0 0 ∙ rw (add-zero i) in
+    let one : count_after (get_or mid 0 0) ≡ get_or counts i 0 + 1 = rw first (omega (arith, room)) in
+    let raised : part ≡ set mid 0 (get_or counts i 0 + 1) = e ∙ rw (lt-ltb 0 (length mid) some) (ap (set mid 0) one) in
+    rw raised (set_mid_at i k 0 counts (get_or counts i 0 + 1) some ∙ rw (add-zero i))
 
 -- the words that `with_links` makes are the rule's: a link fits six bits
 pub bound-word : (pass : Open → Bool) (h : ℕ) (na nb nc nd : List Open) {a b c d w : ℕ} → a ≡ link pass na → b ≡ link pass nb → c ≡ link pass nc → d ≡ link pass nd → w ≡ word h (held a ∷ held b ∷ held c ∷ held d ∷ []) → w ≡ word h (map (link pass) (na ∷ nb ∷ nc ∷ nd ∷ []))

@@ -77,8 +77,9 @@ fn place(compact: &mut Compact<'_>, column: usize, k: usize, span: Span, top: u1
     compact.ys[k] = s.y;
     compact.words[k] = s.data;
     compact.areas[k] = span.area;
-    // no column is crowded by now, so the count has room
-    compact.counts[column] += 1;
+    // No column is crowded by now, so the count has room. The cell is lent as the first of a slice, since two fields of a lent struct can't be lent at once.
+    let index = [compact.indices[column]];
+    let _raised = compact_cell::raise_at(&index, &mut compact.counts[column..], 0);
     k + 1
 }
 
