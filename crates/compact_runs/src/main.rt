@@ -20,6 +20,9 @@ fn two_columns() -> Grid {
 
 type Columns = Store<2, 256>;
 
+// The entries for both cells and for one past them.
+type Cells<const YS: usize, const WORDS: usize, const AREAS: usize> = Compact<3, YS, WORDS, AREAS>;
+
 // One more floor in the column at x, at the height of a stack's layer. The floors of a stack are 10 apart and two high, so an agent stands at 2, 12, 22
 // and on.
 fn add_floor(columns: &mut Columns, x: u32, layer: u8) {
@@ -32,9 +35,17 @@ fn add_floor(columns: &mut Columns, x: u32, layer: u8) {
     let _ = columns.add_span(two_columns(), &mut [0; 256], x, 0, span, 0);
 }
 
-// A fresh field, with a stack of floors in the second column.
+// A fresh field where 0 stood in every entry, with a stack of floors in the second column.
 fn stack(layers: u8) -> Columns {
-    let mut columns = Columns::new(two_columns());
+    let mut columns = Columns {
+        heads: [0; 2],
+        free: 0,
+        floors: [0; 256],
+        ceilings: [0; 256],
+        areas: [0; 256],
+        nexts: [0; 256],
+    };
+    let _ = columns.fresh(two_columns());
     for layer in 0..layers {
         add_floor(&mut columns, 1, layer);
     }
@@ -44,7 +55,7 @@ fn stack(layers: u8) -> Columns {
 // The compact result of the field, for an agent that climbs nothing.
 fn into_compact<const YS: usize, const WORDS: usize, const AREAS: usize>(
     columns: &Columns,
-    compact: &mut Compact<YS, WORDS, AREAS>,
+    compact: &mut Cells<YS, WORDS, AREAS>,
     tall: u16,
 ) -> Result<f32, Refusal> {
     columns.into_compact(two_columns(), &mut [0; 256], compact, tall, 0)
@@ -54,7 +65,7 @@ fn into_compact<const YS: usize, const WORDS: usize, const AREAS: usize>(
 
 // The reply, and the entries of both cells and of the one past them.
 fn try_crowd(rt: &impl Print, floors: u16, columns: &Columns) -> io::Result<()> {
-    let mut compact = Compact::<256, 256, 256>::filled(7);
+    let mut compact = Cells::<256, 256, 256>::filled(7);
     let answer = into_compact(columns, &mut compact, 5);
     print!(rt; "{floors:8}{:6}", number(answer))?;
     for count in compact.cell_counts {
@@ -94,7 +105,7 @@ impl fmt::Display for Linked {
 fn try_level(rt: &impl Print, layers: u8, level: u8, tall: u16) -> io::Result<()> {
     let mut columns = stack(layers);
     add_floor(&mut columns, 0, level);
-    let mut compact = Compact::<256, 256, 256>::filled(7);
+    let mut compact = Cells::<256, 256, 256>::filled(7);
     let answer = into_compact(&columns, &mut compact, tall);
     print!(rt; "{layers:6}{level:6}{tall:6}{:6}", number(answer))?;
     match answer {
@@ -136,7 +147,7 @@ fn links(rt: &impl Print) -> io::Result<()> {
 fn try_slices<const YS: usize, const WORDS: usize, const AREAS: usize>(
     rt: &impl Print,
     name: &str,
-    mut compact: Compact<YS, WORDS, AREAS>,
+    mut compact: Cells<YS, WORDS, AREAS>,
 ) -> io::Result<()> {
     let mut columns = stack(3);
     add_floor(&mut columns, 0, 1);
@@ -156,11 +167,11 @@ fn try_slices<const YS: usize, const WORDS: usize, const AREAS: usize>(
 fn slices(rt: &impl Print) -> io::Result<()> {
     println!(rt; "four open spaces in slices of different lengths; 7 stood in every entry")?;
     println!(rt; "         y height link0 link1 link2 link3  area")?;
-    try_slices(rt, "a y too few", Compact::<3, 4, 4>::filled(7))?;
-    try_slices(rt, "a word too few", Compact::<4, 3, 4>::filled(7))?;
-    try_slices(rt, "an area too few", Compact::<4, 4, 3>::filled(7))?;
-    try_slices(rt, "just enough", Compact::<4, 4, 4>::filled(7))?;
-    try_slices(rt, "two more", Compact::<6, 6, 6>::filled(7))
+    try_slices(rt, "a y too few", Cells::<3, 4, 4>::filled(7))?;
+    try_slices(rt, "a word too few", Cells::<4, 3, 4>::filled(7))?;
+    try_slices(rt, "an area too few", Cells::<4, 4, 3>::filled(7))?;
+    try_slices(rt, "just enough", Cells::<4, 4, 4>::filled(7))?;
+    try_slices(rt, "two more", Cells::<6, 6, 6>::filled(7))
 }
 
 fn main(rt: HostRuntime) -> io::Result<()> {

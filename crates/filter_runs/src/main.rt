@@ -117,9 +117,11 @@ fn try_ceilings(rt: &impl Print, name: &str, marks: &mut [u8], height: u16) -> i
 
 fn ceilings(rt: &impl Print) -> io::Result<()> {
     println!(rt; "low ceilings: [0,1] area 7, [7,65520] area 8, [65530,65530] area 9")?;
-    try_ceilings(rt, "walkable height 5", &mut [1; 3], 5)?;
-    try_ceilings(rt, "walkable height 6", &mut [1; 3], 6)?;
-    try_ceilings(rt, "walkable height 7", &mut [1; 3], 7)?;
+    // a call is lent the marks that the one before left
+    let mut marks = [1; 3];
+    try_ceilings(rt, "walkable height 5", &mut marks, 5)?;
+    try_ceilings(rt, "walkable height 6", &mut marks, 6)?;
+    try_ceilings(rt, "walkable height 7", &mut marks, 7)?;
     try_ceilings(rt, "walkable height 7, a mark too few", &mut [1; 2], 7)
 }
 

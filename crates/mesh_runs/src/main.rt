@@ -101,6 +101,11 @@ fn empty_meshes(rt: &impl Print) -> io::Result<()> {
 
 // ---- one triangle
 
+// A number that is none, made where the compiler cannot see it coming, so that the library's own test meets it.
+fn not_a_number(zero: f32) -> f32 {
+    zero / zero
+}
+
 fn slivers(rt: &impl Print) -> io::Result<()> {
     for (name, grid, corners) in [
         (
@@ -130,7 +135,7 @@ fn slivers(rt: &impl Print) -> io::Result<()> {
             hall(),
             [
                 corner(0.0, 1.0, 0.0),
-                corner(f32::NAN, 1.0, 0.0),
+                corner(not_a_number(0.0), 1.0, 0.0),
                 corner(0.0, 1.0, 4.0),
             ],
         ),

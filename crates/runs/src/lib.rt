@@ -11,7 +11,7 @@ ghost use Rattle.field.specs.Filters.{low_obstacles, ledges, low_ceilings, Filte
 ghost use Rattle.field.specs.Compact.{outcome, Compacted};
 ghost use Rattle.rerecast.specs.Answer.{refusal_says, said_of, told_of};
 ghost use Rattle.replies.specs.Said.{Said};
-ghost use Rattle.runs.specs.Store.{slots_of, unchained, lent, mesh_of, result_of, all_with, IsOf};
+ghost use Rattle.runs.specs.Store.{slots_of, unchained, lent, mesh_of, result_of, all_with, IsOf, Follows};
 
 use field::{NONE, Span};
 use grid::{Corner, Grid};
@@ -64,25 +64,30 @@ pub struct Mesh<'a> {
     pub areas: &'a [u8],
 }
 
-// The entries of a compact result for two columns and one cell past them, and for as many open spaces as each of its slices has room for.
+// The entries of a compact result: for cells, and for as many open spaces as each of its slices has room for.
 #[derive(Clone, Copy)]
-pub struct Compact<const YS: usize, const WORDS: usize, const AREAS: usize> {
-    pub cell_indices: [u32; 3],
-    pub cell_counts: [u8; 3],
+pub struct Compact<const CELLS: usize, const YS: usize, const WORDS: usize, const AREAS: usize> {
+    pub cell_indices: [u32; CELLS],
+    pub cell_counts: [u8; CELLS],
     pub ys: [u16; YS],
     pub words: [u32; WORDS],
     pub areas: [u8; AREAS],
 }
 
-impl<const YS: usize, const WORDS: usize, const AREAS: usize> Compact<YS, WORDS, AREAS> {
+impl<const CELLS: usize, const YS: usize, const WORDS: usize, const AREAS: usize> Compact<
+    CELLS,
+    YS,
+    WORDS,
+    AREAS,
+> {
     // A number stands in every entry.
     pub fn filled(with: u8) -> Self
-        ensures { result_of result ≡ all_with with 3 YS WORDS AREAS }
+        ensures { result_of result ≡ all_with with CELLS YS WORDS AREAS }
     {
         let word = u32::from(with);
         Compact {
-            cell_indices: [word; 3],
-            cell_counts: [with; 3],
+            cell_indices: [word; CELLS],
+            cell_counts: [with; CELLS],
             ys: [u16::from(with); YS],
             words: [word; WORDS],
             areas: [with; AREAS],
@@ -111,7 +116,7 @@ impl fmt::Display for Slot {
     }
 }
 
-// All that is lent for a field but the marks, which each call is lent anew.
+// All that is lent for a field but the marks.
 // Arrays side by side, and not spans in one, since the library is lent a store slice by slice, as C lends it.
 #[derive(Clone, Copy, PartialEq, Eq)]
 pub struct Store<const COLUMNS: usize, const SLOTS: usize> {
@@ -290,11 +295,16 @@ impl<const COLUMNS: usize, const SLOTS: usize> Store<COLUMNS, SLOTS> {
         lend!(pre_filter::filter_walkable_low_height_spans(self, grid, marks, walkable_height))
     }
 
-    pub fn into_compact<const YS: usize, const WORDS: usize, const AREAS: usize>(
+    pub fn into_compact<
+        const CELLS: usize,
+        const YS: usize,
+        const WORDS: usize,
+        const AREAS: usize,
+    >(
         &self,
         grid: Grid,
         marks: &mut [u8],
-        compact: &mut Compact<YS, WORDS, AREAS>,
+        compact: &mut Compact<CELLS, YS, WORDS, AREAS>,
         walkable_height: u16,
         walkable_climb: u16,
     ) -> Result<f32, Refusal>
@@ -347,6 +357,8 @@ pub struct Chain<'a> {
 
 impl Iterator for Chain<'_> {
     type Item = Slot;
+
+    ghost next_gives = { Follows };
 
     fn next(&mut self) -> Option<Slot> {
         let i = self.head as usize;

@@ -38,10 +38,10 @@ fn line<const SLOTS: usize>(
     rt: &impl Print,
     name: &str,
     store: &mut Field<SLOTS>,
+    marks: &mut [u8; 4],
     call: Call,
 ) -> io::Result<()> {
     let before = *store;
-    let mut marks = [1u8; 4];
     let answer = match call {
         Call::Fresh(grid) => store.fresh(grid),
         Call::Add(x, z, floor, ceiling) => {
@@ -64,11 +64,11 @@ fn line<const SLOTS: usize>(
             store.chain(second)
         )?;
     }
-    let [a, b, c, d] = marks;
+    let [a, b, c, d] = *marks;
     println!(rt; "; marks {a}{b}{c}{d}")
 }
 
-// Calls one after another on one store.
+// Calls one after another on one store: each is lent the marks that the one before left.
 fn table<const SLOTS: usize>(
     rt: &impl Print,
     title: &str,
@@ -76,8 +76,9 @@ fn table<const SLOTS: usize>(
     calls: &[(&str, Call)],
 ) -> io::Result<()> {
     println!(rt; "{title}")?;
+    let mut marks = [1; 4];
     for (name, call) in calls {
-        line(rt, name, &mut store, *call)?;
+        line(rt, name, &mut store, &mut marks, *call)?;
     }
     Ok(())
 }
@@ -113,10 +114,12 @@ fn full_stores(rt: &impl Print) -> io::Result<()> {
 
 // Places off the grid, where the flat column number would still be a column.
 fn refused_spans(rt: &impl Print) -> io::Result<()> {
+    let mut store = untouched::<3>();
+    let _ = store.fresh(two_cells());
     table(
         rt,
         "spans that are refused",
-        Field::<3>::new(two_cells()),
+        store,
         &[
             ("[2,5] at 2,0, past the width", Call::Add(2, 0, 2, 5)),
             ("[2,5] at 0,1, past the height", Call::Add(0, 1, 2, 5)),
@@ -131,6 +134,7 @@ fn refused_stores(rt: &impl Print) -> io::Result<()> {
         rt,
         "fresh, no slots",
         &mut untouched::<0>(),
+        &mut [1; 4],
         Call::Fresh(two_cells()),
     )?;
     for (name, call) in [
@@ -152,7 +156,7 @@ fn refused_stores(rt: &impl Print) -> io::Result<()> {
         ),
         ("a span into a store never made", Call::Add(0, 0, 2, 5)),
     ] {
-        line(rt, name, &mut untouched::<4>(), call)?;
+        line(rt, name, &mut untouched::<4>(), &mut [1; 4], call)?;
     }
     Ok(())
 }
@@ -236,7 +240,8 @@ fn damaged_fields(rt: &impl Print) -> io::Result<()> {
             },
         ),
     ] {
-        line(rt, name, &mut store, Call::Add(0, 0, 20, 21))?;
+        // marks that are neither 0 nor 1
+        line(rt, name, &mut store, &mut [9; 4], Call::Add(0, 0, 20, 21))?;
     }
     Ok(())
 }

@@ -46,76 +46,92 @@ fn span(floor: u16, ceiling: u16, area: u8) -> Span {
     }
 }
 
-// A fresh column that is offered spans one after another, and the last reply.
+// Four slots, none in use.
+const EMPTY: Column<4> = Store {
+    heads: [NONE],
+    free: 0,
+    floors: [0; 4],
+    ceilings: [0; 4],
+    areas: [0; 4],
+    nexts: [1, 2, 3, NONE],
+};
+
+// One slot, which holds [2,5].
+const FULL: Column<1> = Store {
+    heads: [0],
+    free: NONE,
+    floors: [2],
+    ceilings: [5],
+    areas: [3],
+    nexts: [NONE],
+};
+
+// A column that is offered spans one after another, each with its threshold, and the last reply.
 fn offered<const SLOTS: usize>(
-    spans: &[Span],
-    threshold: u16,
+    mut column: Column<SLOTS>,
+    spans: &[(Span, u16)],
 ) -> (Result<(), Refusal>, Column<SLOTS>) {
-    let mut column = Column::new(one_cell());
     let mut answer = Ok(());
-    for new in spans {
-        answer = column.add_span(one_cell(), &mut [0; SLOTS], 0, 0, *new, threshold);
+    for (new, threshold) in spans {
+        answer = column.add_span(one_cell(), &mut [0; SLOTS], 0, 0, *new, *threshold);
     }
     (answer, column)
 }
 
 fn insertions(rt: &impl Print) -> io::Result<()> {
-    for (name, expected, threshold, spans) in [
+    for (name, expected, spans) in [
         (
             "P1",
             "0: [2,9] area 1",
-            1,
-            [span(2, 5, 3), span(5, 9, 1)].as_slice(),
+            [(span(2, 5, 3), 1), (span(5, 9, 1), 1)].as_slice(),
         ),
         (
             "P2",
             "0: [2,6] area 3",
-            1,
-            [span(2, 5, 3), span(4, 6, 1)].as_slice(),
+            [(span(2, 5, 3), 1), (span(4, 6, 1), 1)].as_slice(),
         ),
         (
             "P3",
             "0: three spans",
-            0,
-            [span(2, 5, 3), span(7, 9, 4), span(6, 6, 1)].as_slice(),
+            [(span(2, 5, 3), 1), (span(7, 9, 4), 0), (span(6, 6, 1), 0)].as_slice(),
         ),
         (
             "P4",
             "0: [2,9] area 4",
-            0,
-            [span(2, 5, 3), span(7, 9, 4), span(5, 7, 1)].as_slice(),
+            [(span(2, 5, 3), 1), (span(7, 9, 4), 0), (span(5, 7, 1), 0)].as_slice(),
         ),
         (
             "P5",
             "0: [0,9] area 1",
-            0,
-            [span(0, 1, 9), span(1, 9, 1)].as_slice(),
+            [(span(0, 1, 9), 0), (span(1, 9, 1), 0)].as_slice(),
         ),
         (
             "P5, the other order",
             "0: [0,9] area 9",
-            0,
-            [span(1, 9, 1), span(0, 1, 9)].as_slice(),
+            [(span(1, 9, 1), 0), (span(0, 1, 9), 0)].as_slice(),
         ),
     ] {
-        let (answer, column) = offered::<4>(spans, threshold);
+        let (answer, column) = offered(EMPTY, spans);
         column_row(rt, name, expected, answer, &column)?;
     }
-    let (answer, column) = offered::<1>(&[span(2, 5, 3), span(6, 7, 1)], 0);
+    let (answer, column) = offered(FULL, &[(span(6, 7, 1), 0)]);
     column_row(rt, "P6, apart", "5: [2,5] area 3", answer, &column)?;
-    let (answer, column) = offered::<1>(&[span(2, 5, 3), span(5, 7, 1)], 0);
+    let (answer, column) = offered(FULL, &[(span(5, 7, 1), 0)]);
     column_row(rt, "P6, sharing a height", "0: accepted", answer, &column)
 }
 
 fn filters(rt: &impl Print) -> io::Result<()> {
-    let (_, mut low) = offered::<4>(&[span(0, 1, 5), span(3, 4, 0), span(5, 6, 0)], 0);
+    let (_, mut low) = offered(
+        EMPTY,
+        &[(span(0, 1, 5), 0), (span(3, 4, 0), 0), (span(5, 6, 0), 0)],
+    );
     let answer = low.filter_low_hanging_walkable_obstacles(one_cell(), &mut [0; 4], 3);
     column_row(rt, "P10", "0: areas 5, 5, 0", answer, &low)?;
     for (name, expected, height) in [
         ("P11, walkable height 5", "0: stays", 5),
         ("P11, walkable height 6", "0: cleared", 6),
     ] {
-        let (_, mut high) = offered::<4>(&[span(65530, 65530, 7)], 0);
+        let (_, mut high) = offered(EMPTY, &[(span(65530, 65530, 7), 0)]);
         let answer = high.filter_walkable_low_height_spans(one_cell(), &mut [0; 4], height);
         column_row(rt, name, expected, answer, &high)?;
     }
@@ -183,7 +199,14 @@ fn sliver(rt: &impl Print) -> io::Result<()> {
         corner(-0.5, 1.0, 0.5),
         corner(1.5, 1.0, 4.5),
     ];
-    let mut store = Store::<16, 8>::new(grid);
+    let mut store = Store {
+        heads: [NONE; 16],
+        free: 0,
+        floors: [0; 8],
+        ceilings: [0; 8],
+        areas: [0; 8],
+        nexts: [1, 2, 3, 4, 5, 6, 7, NONE],
+    };
     let answer = store.rasterize_triangle(grid, &mut [0; 8], corners, 255, 1);
     let held = u8::from(store.heads[0] != NONE);
     let got = format_args!("{}: {held} spans", number(answer));
@@ -209,7 +232,7 @@ fn tall_agent(rt: &impl Print) -> io::Result<()> {
         ("walkable height 255", "0: 4294709247, a link to 0", 255),
         ("walkable height 256", "0: 4294967295, no links", 256),
     ] {
-        let mut compact = Compact::<2, 2, 2>::filled(0);
+        let mut compact = Compact::<2, 2, 2, 2>::filled(0);
         let answer = store.into_compact(
             cells(2.0, 64.0, 1.0),
             &mut [0; 2],
