@@ -6,7 +6,7 @@ use crate::input::Line;
 use crate::mesh::Mesh;
 use crate::store::{FIRST_LENT, Store};
 use crate::words::Words;
-use crate::writer::Out;
+use crate::writer::{Out, Text};
 use crate::{answers, calls, map, parse, shows};
 use grid::{Corner, Grid};
 use rerecast::Refusal;
@@ -17,9 +17,9 @@ pub struct Bench {
     // whether only the bare answers are written
     terse: bool,
     plan: Plan,
-    store: Store,
-    mesh: Mesh,
     compact: Compact,
+    mesh: Mesh,
+    store: Store,
 }
 
 // A grid, its cells in a row (0 of a grid that is refused), and its columns.
@@ -60,13 +60,14 @@ fn no_grid() -> Grid {
 }
 
 impl Bench {
+    // In this order, between the input and the output, the lists leave the least of the C library's heap unused.
     pub fn new(alloc: Global) -> Result<Bench, AllocError> {
         Ok(Bench {
             terse: false,
             plan: Plan::from(no_grid()),
-            store: Store::new(alloc)?,
-            mesh: Mesh::new(alloc),
             compact: Compact::new(alloc)?,
+            mesh: Mesh::new(alloc)?,
+            store: Store::new(alloc)?,
         })
     }
 
@@ -99,7 +100,7 @@ impl Bench {
                 say_case(out, words);
                 self.forget()?;
             }
-            Command::Grid(grid) => self.plan = Plan::from(grid),
+            Command::Grid(grid) => self.lay_out(grid)?,
             Command::Slots(slots) => self.store.lend(slots)?,
             Command::Spans(spans) => self.compact.lend(spans)?,
             Command::Vertex(vertex) => {
@@ -128,6 +129,11 @@ impl Bench {
             Command::Terse => self.terse = true,
         }
         Ok(())
+    }
+
+    fn lay_out(&mut self, grid: Grid) -> Result<(), AllocError> {
+        self.plan = Plan::from(grid);
+        self.store.lend_heads(self.plan.columns)
     }
 
     fn call(&mut self, call: Call) -> (Name, Answer) {
@@ -181,11 +187,13 @@ impl Bench {
 // A case's line, one space between its words.
 fn say_case(out: &mut Out, words: Words<'_>) {
     write!(out, "{}", Name::Case.word());
+    let mut text = Text::new(out);
     for word in words {
-        write!(out, " ");
-        out.write_bytes(word);
+        text.put(b' ');
+        text.say(word);
     }
-    writeln!(out);
+    text.put(b'\n');
+    text.finish();
 }
 
 fn say_no_room(out: &mut Out, line: u64) {
@@ -201,6 +209,8 @@ fn say_help(out: &mut Out) {
         "A command a line; # starts a comment. Whole numbers are decimal or 0x; floats are 0x and eight digits of bits, or decimal."
     );
     for name in Name::ALL {
-        writeln!(out, "  {name}");
+        for piece in ["  ", name.word(), name.rest(), "\n"] {
+            out.write_bytes(piece.as_bytes());
+        }
     }
 }

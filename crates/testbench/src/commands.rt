@@ -86,7 +86,7 @@ impl Name {
     }
 
     // What follows the word.
-    fn rest(self) -> &'static str {
+    pub fn rest(self) -> &'static str {
         match self {
             Name::Case => " NAME KIND",
             Name::Grid => " MINX MINY MINZ MAXX MAXY MAXZ SIZE HEIGHT",

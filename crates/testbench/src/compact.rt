@@ -1,5 +1,5 @@
 // The compact result.
-use crate::store::FIRST_LENT;
+use crate::store::{FIRST_LENT, MOST_LENT};
 use std::alloc::{AllocError, Global};
 
 const COLUMNS: usize = 16384;
@@ -24,13 +24,14 @@ pub struct Made {
 }
 
 impl Compact {
+    // There is room for the most that is ever lent, so that no command runs out of memory.
     pub fn new(alloc: Global) -> Result<Compact, AllocError> {
         let mut compact = Compact {
             firsts: vec![in alloc; 0; COLUMNS]?,
             counts: vec![in alloc; 0; COLUMNS]?,
-            ys: Vec::new(alloc),
-            links: Vec::new(alloc),
-            areas: Vec::new(alloc),
+            ys: Vec::with_capacity(alloc, MOST_LENT)?,
+            links: Vec::with_capacity(alloc, MOST_LENT)?,
+            areas: Vec::with_capacity(alloc, MOST_LENT)?,
             lent: 0,
             made: None,
         };

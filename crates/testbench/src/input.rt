@@ -32,7 +32,7 @@ impl Input {
         let reader = BufReader::with_capacity(alloc, 65536, stdin)?;
         Ok(Input {
             reader,
-            line: Vec::new(alloc),
+            line: Vec::with_capacity(alloc, LONGEST)?,
             too_long: false,
             count: 0,
             ended: false,

@@ -25,13 +25,18 @@ use writer::Out;
 fn main(rt: HostRuntime) -> io::Result<()> {
     let alloc = rt.alloc();
     let mut input = Input::new(alloc, rt.stdin())?;
-    let mut out = Out::new(alloc, rt.stdout())?;
     let mut bench = Bench::new(alloc)?;
+    let mut out = Out::new(alloc, rt.stdout())?;
     for _ in 0..u64::MAX {
         let Some(line) = input.next_line(&mut out)? else {
             break;
         };
-        bench.read(line, &mut out)?;
+        let done = bench.read(line, &mut out);
+        if done.is_err() {
+            // the answers that were already given stand
+            out.flush()?;
+        }
+        done?;
     }
     out.flush()
 }

@@ -4,6 +4,9 @@ ghost use Rattle.std.specs.Prelude.{◌<◌};
 use crate::store::Slots;
 use crate::writer::Out;
 
+// How many characters of a row go out together.
+const PIECE: usize = 128;
+
 // What is seen of a column from above.
 #[derive(Clone, Copy)]
 enum Seen {
@@ -16,6 +19,10 @@ enum Seen {
 impl Seen {
     // The chains of a store that is not sound may run in circles: no more spans are looked at than there are slots.
     fn of(head: u32, slots: Slots<'_>) -> Seen {
+        // an empty column, of which a wide map has many, is told at once
+        if head as usize >= slots.nexts.len() {
+            return Seen::NoSpan;
+        }
         let mut seen = Seen::NoSpan;
         for span in slots.chain(head, slots.nexts.len()) {
             seen = match seen {
@@ -68,9 +75,13 @@ impl Range {
     }
 
     // 0 to 9, then a to z.
-    fn glyph(self, top: u16) -> char {
+    fn glyph(self, top: u16) -> u8 {
         let level = top.saturating_sub(self.low) / self.step();
-        char::from_digit(level as u32, 36).unwrap_or('z')
+        match level {
+            0..=9 => b'0' + level as u8,
+            10..=35 => b'a' - 10 + level as u8,
+            _ => b'z',
+        }
     }
 }
 
@@ -90,17 +101,28 @@ pub fn map(out: &mut Out, width: u32, heads: &[u32], slots: Slots<'_>) {
     writeln!(out);
 }
 
-// The rows, x from left to right, z downwards.
+// The rows, x from left to right, z downwards. A row's characters go out together, and a long row's in pieces.
 fn say_rows(out: &mut Out, width: u32, heads: &[u32], slots: Slots<'_>, range: Option<Range>) {
-    for (column, head) in heads.iter().enumerate() {
-        let glyph = match (Seen::of(*head, slots), range) {
-            (Seen::Top(top), Some(range)) => range.glyph(top),
-            (Seen::NoSpan, _) => '.',
-            _ => '#',
-        };
-        write!(out, "{glyph}");
-        if (column + 1).is_multiple_of(width as usize) {
-            writeln!(out);
+    let width = (width as usize).max(1);
+    for row in heads.chunks(width) {
+        for piece in row.chunks(PIECE) {
+            let mut glyphs = [b'#'; PIECE];
+            for (glyph, head) in glyphs.iter_mut().zip(piece) {
+                *glyph = glyph_of(*head, slots, range);
+            }
+            out.write_bytes(&glyphs[..piece.len().min(PIECE)]);
         }
+        // a grid may have more columns than there are heads, and then its last row stops short
+        if row.len() == width {
+            out.write_bytes(b"\n");
+        }
+    }
+}
+
+fn glyph_of(head: u32, slots: Slots<'_>, range: Option<Range>) -> u8 {
+    match (Seen::of(head, slots), range) {
+        (Seen::Top(top), Some(range)) => range.glyph(top),
+        (Seen::NoSpan, _) => b'.',
+        _ => b'#',
     }
 }

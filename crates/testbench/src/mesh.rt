@@ -16,13 +16,14 @@ pub struct Mesh {
 }
 
 impl Mesh {
-    pub fn new(alloc: Global) -> Mesh {
-        Mesh {
-            vertices: Vec::new(alloc),
-            indices: Vec::new(alloc),
-            areas: Vec::new(alloc),
+    // There is room for all of it, so that no command runs out of memory.
+    pub fn new(alloc: Global) -> Result<Mesh, AllocError> {
+        Ok(Mesh {
+            vertices: Vec::with_capacity(alloc, 3 * MOST_VERTICES)?,
+            indices: Vec::with_capacity(alloc, 3 * MOST_FACES)?,
+            areas: Vec::with_capacity(alloc, MOST_FACES)?,
             area: 255,
-        }
+        })
     }
 
     // Forgets vertices and faces.

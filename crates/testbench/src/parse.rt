@@ -1,6 +1,7 @@
 // Reads a line: a command, and the words that it takes.
 use crate::commands::{Call, Command, Damage, Entry, Name, Needs, Offer, Unread, View};
 use crate::numbers::Number;
+use crate::store::MOST_LENT;
 use crate::words::Words;
 use field::Span;
 use grid::{Corner, Grid};
@@ -100,10 +101,11 @@ fn span(words: &mut Words<'_>) -> Option<Span> {
 // How many slots or compact spans are lent.
 fn count(words: &mut Words<'_>) -> Option<usize> {
     let n: u32 = number(words)?;
-    if n > 65536 {
+    let n = n as usize;
+    if n > MOST_LENT {
         return None;
     }
-    Some(n as usize)
+    Some(n)
 }
 
 fn view(word: &[u8]) -> Option<View> {

@@ -1,35 +1,15 @@
 // What `show` writes of a store and of a compact result.
 use crate::compact::Compact;
-use crate::numbers::Bits;
 use crate::store::{Slots, front};
-use crate::writer::Out;
-use field::Span;
-use std::fmt::Display;
-use std::io::Write;
-use std::{fmt, io};
+use crate::writer::{Out, Text};
 
 // A column's place in its row, and its row.
-#[derive(Clone, Copy)]
-struct Place {
-    x: usize,
-    z: usize,
-}
-
-impl Place {
-    fn of(column: usize, width: u32) -> Place {
-        let width = width as usize;
-        Place {
-            x: column.checked_rem(width).unwrap_or(0),
-            z: column.checked_div(width).unwrap_or(0),
-        }
-    }
-}
-
-impl Display for Place {
-    fn fmt<W: fmt::Write>(&self, f: &mut fmt::Formatter<W>) -> fmt::Result {
-        let Place { x, z } = self;
-        write!(f, "{x} {z}")
-    }
+fn say_place(text: &mut Text<'_>, column: usize, width: u32) {
+    let width = width as usize;
+    text.say_number(column.checked_rem(width).unwrap_or(0) as u64);
+    text.put(b' ');
+    text.say_number(column.checked_div(width).unwrap_or(0) as u64);
+    text.put(b':');
 }
 
 // ---- columns
@@ -37,30 +17,31 @@ impl Display for Place {
 // The columns that have spans. A sound store has no more spans than slots.
 pub fn columns(out: &mut Out, width: u32, heads: &[u32], slots: Slots<'_>) {
     writeln!(out, "show columns");
+    let mut text = Text::new(out);
     let mut left = slots.nexts.len();
     for (column, head) in heads.iter().enumerate() {
         if (*head as usize) < slots.nexts.len() {
-            let place = Place::of(column, width);
-            write!(out, "{place}:");
-            left = say_chain(out, *head, slots, left);
-            writeln!(out);
+            say_place(&mut text, column, width);
+            left = say_chain(&mut text, *head, slots, left);
+            text.put(b'\n');
         }
     }
+    text.finish();
 }
 
 // Answers how many spans more may be written.
-fn say_chain(out: &mut Out, head: u32, slots: Slots<'_>, left: usize) -> usize {
+fn say_chain(text: &mut Text<'_>, head: u32, slots: Slots<'_>, left: usize) -> usize {
     let mut rest = left;
     for span in slots.chain(head, left) {
         if rest < left {
-            write!(out, ",");
+            text.put(b',');
         }
-        let Span {
-            floor,
-            ceiling,
-            area,
-        } = span;
-        write!(out, " {floor}-{ceiling} {area}");
+        text.put(b' ');
+        text.say_number(span.floor as u64);
+        text.put(b'-');
+        text.say_number(span.ceiling as u64);
+        text.put(b' ');
+        text.say_number(span.area as u64);
         rest = rest.saturating_sub(1);
     }
     rest
@@ -69,21 +50,24 @@ fn say_chain(out: &mut Out, head: u32, slots: Slots<'_>, left: usize) -> usize {
 // ---- raw
 
 pub fn raw(out: &mut Out, heads: &[u32], free: u32, slots: Slots<'_>) {
-    writeln!(out, "show raw");
-    say_list(out, "heads", heads);
-    writeln!(out, "free {free}");
-    say_list(out, "floors", slots.floors);
-    say_list(out, "ceilings", slots.ceilings);
-    say_list(out, "areas", slots.areas);
-    say_list(out, "nexts", slots.nexts);
+    let mut text = Text::new(out);
+    text.say(b"show raw\n");
+    say_list(&mut text, b"heads", heads);
+    say_list(&mut text, b"free", &[free]);
+    say_list(&mut text, b"floors", slots.floors);
+    say_list(&mut text, b"ceilings", slots.ceilings);
+    say_list(&mut text, b"areas", slots.areas);
+    say_list(&mut text, b"nexts", slots.nexts);
+    text.finish();
 }
 
-fn say_list<T: Display>(out: &mut Out, name: &str, entries: &[T]) {
-    write!(out, "{name}");
+fn say_list<T: Copy + Into<u64>>(text: &mut Text<'_>, name: &[u8], entries: &[T]) {
+    text.say(name);
     for entry in entries {
-        write!(out, " {entry}");
+        text.put(b' ');
+        text.say_number((*entry).into());
     }
-    writeln!(out);
+    text.put(b'\n');
 }
 
 // ---- the compact result
@@ -100,18 +84,34 @@ pub fn compact(out: &mut Out, compact: &Compact) {
 
 // Writes the cells, and answers how many spans they count.
 fn say_cells(out: &mut Out, width: u32, firsts: &[u32], counts: &[u8]) -> usize {
+    let mut text = Text::new(out);
     let mut spans = 0usize;
     for (column, (first, count)) in firsts.iter().zip(counts).enumerate() {
-        let place = Place::of(column, width);
-        writeln!(out, "cell {place}: {first} {count}");
+        text.say(b"cell ");
+        say_place(&mut text, column, width);
+        text.put(b' ');
+        text.say_number(*first as u64);
+        text.put(b' ');
+        text.say_number(*count as u64);
+        text.put(b'\n');
         spans = spans.saturating_add(*count as usize);
     }
+    text.finish();
     spans
 }
 
 fn say_spans(out: &mut Out, ys: &[u16], links: &[u32], areas: &[u8]) {
+    let mut text = Text::new(out);
     for (number, (y, (links, area))) in ys.iter().zip(links.iter().zip(areas)).enumerate() {
-        let links = Bits(*links);
-        writeln!(out, "span {number}: {y} {links} {area}");
+        text.say(b"span ");
+        text.say_number(number as u64);
+        text.say(b": ");
+        text.say_number(*y as u64);
+        text.put(b' ');
+        text.say_bits(*links);
+        text.put(b' ');
+        text.say_number(*area as u64);
+        text.put(b'\n');
     }
+    text.finish();
 }

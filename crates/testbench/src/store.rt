@@ -8,6 +8,9 @@ use std::alloc::{AllocError, Global};
 // How many slots, and how many compact spans, are lent at first.
 pub const FIRST_LENT: usize = 1024;
 
+// The most that are ever lent.
+pub const MOST_LENT: usize = 65536;
+
 const COLUMNS: usize = 16384;
 
 #[derive(Drop)]
@@ -20,37 +23,55 @@ pub struct Store {
     pub areas: Vec<u8>,
     pub nexts: Vec<u32>,
     pub marks: Vec<u8>,
-    // how many slots are lent; behind them are more if more were lent since the case began
+    // how many slots are lent; behind them are more if more were ever lent
     pub lent: usize,
+    // the most slots and columns since the case began: what stands behind them is 0
+    most_slots: usize,
+    most_columns: usize,
 }
 
 impl Store {
+    // There is room for the most that is ever lent, so that no command runs out of memory.
     pub fn new(alloc: Global) -> Result<Store, AllocError> {
         let mut store = Store {
-            heads: Vec::new(alloc),
+            heads: Vec::with_capacity(alloc, COLUMNS)?,
             free: 0,
-            floors: Vec::new(alloc),
-            ceilings: Vec::new(alloc),
-            areas: Vec::new(alloc),
-            nexts: Vec::new(alloc),
-            marks: Vec::new(alloc),
+            floors: Vec::with_capacity(alloc, MOST_LENT)?,
+            ceilings: Vec::with_capacity(alloc, MOST_LENT)?,
+            areas: Vec::with_capacity(alloc, MOST_LENT)?,
+            nexts: Vec::with_capacity(alloc, MOST_LENT)?,
+            marks: Vec::with_capacity(alloc, MOST_LENT)?,
             lent: 0,
+            most_slots: 0,
+            most_columns: 0,
         };
-        store.clear()?;
+        store.lend(FIRST_LENT)?;
         Ok(store)
     }
 
-    // All is 0, as when the program starts. Such a store is not sound.
+    // All is 0, as when the program starts. Such a store is not sound. Only what may have been written since the last time is touched.
     pub fn clear(&mut self) -> Result<(), AllocError> {
-        self.heads.clear();
-        self.heads.resize(COLUMNS, 0)?;
+        front_mut(&mut self.heads, self.most_columns).fill(0);
+        self.most_columns = 0;
         self.free = 0;
-        self.floors.clear();
-        self.ceilings.clear();
-        self.areas.clear();
-        self.nexts.clear();
-        self.marks.clear();
+        let slots = self.most_slots;
+        front_mut(&mut self.floors, slots).fill(0);
+        front_mut(&mut self.ceilings, slots).fill(0);
+        front_mut(&mut self.areas, slots).fill(0);
+        front_mut(&mut self.nexts, slots).fill(0);
+        front_mut(&mut self.marks, slots).fill(0);
+        self.most_slots = 0;
         self.lend(FIRST_LENT)
+    }
+
+    // From here on a grid has so many columns. Heads that were never lent are 0, and there are more than these if a grid was ever larger.
+    pub fn lend_heads(&mut self, columns: usize) -> Result<(), AllocError> {
+        let columns = columns.min(COLUMNS);
+        if columns > self.heads.len() {
+            self.heads.resize(columns, 0)?;
+        }
+        self.most_columns = self.most_columns.max(columns);
+        Ok(())
     }
 
     // From here on so many slots are lent. Those that never were are 0.
@@ -62,6 +83,7 @@ impl Store {
             self.nexts.resize(slots, 0)?;
             self.marks.resize(slots, 0)?;
         }
+        self.most_slots = self.most_slots.max(slots);
         self.lent = slots;
         Ok(())
     }

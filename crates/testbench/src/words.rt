@@ -11,7 +11,7 @@ fn is_space(b: u8) -> bool {
 pub struct Words<'a>(&'a [u8]);
 
 // Where the first byte of a kind stands, or the end.
-pub fn first<F: Fn(u8) -> bool>(bytes: &[u8], is_it: F) -> usize
+pub(crate) fn first<F: Fn(u8) -> bool>(bytes: &[u8], is_it: F) -> usize
     requires { F.IsAlwaysCallable is_it }
     ensures { result ≤ length bytes.now }
 {
